@@ -1,0 +1,11 @@
+-- The rules of the box, a file for each part of them. A reader must believe these definitions; nothing here is code.
+pub mod Limits
+pub mod Shares
+pub mod Classes
+pub mod Events
+pub mod Box
+pub mod Steps
+pub mod Refusals
+pub mod Outcome
+pub mod Promise
+pub mod Worked

@@ -1,0 +1,105 @@
+-- The words of the promise on shares. What is counted here comes from the table, the events and the order alone, so that a
+-- reader of the promise need not know the inside of the box.
+use Prim.Native.Nat.{ℕ, zero, suc, _+_, _*_, _-_, _≤_, _<_, max}
+use mathlib.Core.Bool.{Bool, true, false, cond, _||_}
+use mathlib.Core.List.{List, [], _∷_}
+use lib.Dec.{eqb}
+use lib.ListN.{take, drop}
+use Rattle.rules.specs.declared.Event.{Event}
+use Rattle.rules.specs.declared.Event.the-variants.{Arrival, Finish}
+use Rattle.rules.specs.Limits.{whole}
+use Rattle.rules.specs.Classes.{Tree, parent, depth, share, row-of}
+use Rattle.rules.specs.Events.{Events, class-word, length-word, event}
+
+-- ── parts of the tree ──
+
+-- row r stands on the way from row k, which is at this depth, up to the root
+unfoldable pub on-way : ℕ → Tree → ℕ → ℕ → Bool
+on-way zero tree k r = eqb k r
+on-way (suc d) tree k r = eqb k r || on-way d tree (parent tree k) r
+
+-- row k is in row r's part of the tree: r itself, or below it
+unfoldable pub within : Tree → ℕ → ℕ → Bool
+within tree r k = on-way (depth tree k) tree k r
+
+-- the packet named i is for a class in row r's part of the tree
+unfoldable pub for-part : Tree → Events → ℕ → ℕ → Bool
+for-part tree events r i = within tree r (row-of tree (class-word events i))
+
+-- ── counting events ──
+
+-- one for an event of this kind, else none
+unfoldable pub one-finish : Event → ℕ
+one-finish (Arrival class length) = 0
+one-finish Finish = 1
+
+unfoldable pub one-arrival : Event → ℕ
+one-arrival (Arrival class length) = 1
+one-arrival Finish = 0
+
+-- finishes among the first n events
+unfoldable pub finish-count : Events → ℕ → ℕ
+finish-count events zero = 0
+finish-count events (suc n) = finish-count events n + one-finish (event events n)
+
+-- packets that arrived in row r's part of the tree in the first n events
+unfoldable pub arrived : Tree → Events → ℕ → ℕ → ℕ
+arrived tree events r zero = 0
+arrived tree events r (suc n) = arrived tree events r n + cond (for-part tree events r n) (one-arrival (event events n)) 0
+
+-- the largest packet of the first n events
+unfoldable pub largest : Events → ℕ → ℕ
+largest events zero = 0
+largest events (suc n) = max (largest events n) (length-word events n)
+
+-- ── counting packets ──
+
+-- how many packets of a list are for row r's part of the tree
+unfoldable pub packets-for : Tree → Events → ℕ → List ℕ → ℕ
+packets-for tree events r [] = 0
+packets-for tree events r (i ∷ is) = cond (for-part tree events r i) 1 0 + packets-for tree events r is
+
+-- how many bytes they have
+unfoldable pub bytes-for : Tree → Events → ℕ → List ℕ → ℕ
+bytes-for tree events r [] = 0
+bytes-for tree events r (i ∷ is) = cond (for-part tree events r i) (length-word events i) 0 + bytes-for tree events r is
+
+-- the packets finished in the first n events: the line finishes packets in the order in which they went on it
+unfoldable pub finished : Events → List ℕ → ℕ → List ℕ
+finished events order n = take (finish-count events n) order
+
+-- the packets finished in the stretch of events from place a up to, and without, place b
+unfoldable pub finished-in : Events → List ℕ → ℕ → ℕ → List ℕ
+finished-in events order a b = take (finish-count events b - finish-count events a) (drop (finish-count events a) order)
+
+-- the packets that row r's part of the tree holds after the first n events
+unfoldable pub holds : Tree → Events → List ℕ → ℕ → ℕ → ℕ
+holds tree events order r n = arrived tree events r n - packets-for tree events r (finished events order n)
+
+-- row r holds a packet after each event of the stretch
+unfoldable pub Backlogged : Tree → Events → List ℕ → ℕ → ℕ → ℕ → Type 0
+Backlogged tree events order r a b = (i : ℕ) → a ≤ i → i < b → 0 < holds tree events order r (suc i)
+
+-- ── the number ──
+
+-- a number of bytes as a numerator and a denominator
+pub record Ratio : Type 0 where
+  pub numerator : ℕ
+  pub denominator : ℕ
+
+-- one step up from a row with this share: three largest packets more, times the whole over the share
+unfoldable pub step-up : ℕ → ℕ → Ratio → Ratio
+step-up largest share q =
+    record {
+      numerator = (q .numerator + 3 * largest * q .denominator) * whole;
+      denominator = q .denominator * share;
+    }
+
+-- from row k, which is at this depth, step by step up to the root
+unfoldable pub climbed : ℕ → Tree → ℕ → ℕ → Ratio → Ratio
+climbed zero tree largest k q = q
+climbed (suc d) tree largest k q = climbed d tree largest (parent tree k) (step-up largest (share tree k) q)
+
+-- the number for class k from its own bytes
+unfoldable pub number : Tree → ℕ → ℕ → ℕ → Ratio
+number tree largest k own = climbed (depth tree k) tree largest k (record { numerator = own; denominator = 1 })
