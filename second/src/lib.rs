@@ -1,0 +1,21 @@
+//! A replayer for a hierarchical packet scheduler in whole numbers.
+#![forbid(unsafe_code)]
+
+mod answer;
+mod counts;
+mod events;
+mod print;
+pub mod program;
+mod report;
+mod run;
+mod sentences;
+mod shares;
+mod slices;
+mod table;
+mod text;
+mod tree;
+
+pub use answer::Answer;
+pub use run::run;
+pub use sentences::sentence;
+pub use slices::{EventSlices, Lent, TableSlices};

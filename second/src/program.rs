@@ -1,0 +1,96 @@
+//! The program from its arguments to the bytes it prints.
+
+use std::ffi::{OsStr, OsString};
+use std::fs;
+
+use crate::print::{answer_text, results_text};
+use crate::report::REPORT_WIDTH;
+use crate::run::run;
+use crate::sentences::sentence;
+use crate::slices::{EventSlices, Lent, TableSlices};
+use crate::text::{read_columns, EVENT_HEADING, TABLE_HEADING};
+
+/// What goes to standard output and to standard error.
+#[derive(Debug, PartialEq, Eq)]
+pub struct Response {
+    pub output: Vec<u8>,
+    pub error: Vec<u8>,
+}
+
+/// Answers the arguments that follow the program's name.
+pub fn respond(arguments: &[OsString]) -> Response {
+    match read_and_replay(arguments) {
+        Ok(response) => response,
+        Err(output) => Response {
+            output,
+            error: Vec::new(),
+        },
+    }
+}
+
+/// The error is the line that says what cannot be read.
+fn read_and_replay(arguments: &[OsString]) -> Result<Response, Vec<u8>> {
+    let [table_file, event_file] = arguments else {
+        let line =
+            "cannot read: give a class table and an event list, second TABLE EVENTS\n".to_string();
+        return Err(line.into_bytes());
+    };
+    let table = read_file(table_file, TABLE_HEADING)?;
+    let events = read_file(event_file, EVENT_HEADING)?;
+    let table = TableSlices {
+        identifiers: &table[0],
+        parents: &table[1],
+        shares: &table[2],
+    };
+    let events = EventSlices {
+        classes: &events[0],
+        lengths: &events[1],
+    };
+    Ok(replay(table, events))
+}
+
+fn read_file(file: &OsStr, heading: &str) -> Result<Vec<Vec<u32>>, Vec<u8>> {
+    let bytes =
+        fs::read(file).map_err(|_| cannot_read(file, ": it is missing or cannot be opened"))?;
+    read_columns(&bytes, heading)
+        .map_err(|fault| cannot_read(file, &format!(", line {}: {}", fault.line, fault.what)))
+}
+
+/// The file's name is printed as it was given, so this is bytes and not a string.
+fn cannot_read(file: &OsStr, rest: &str) -> Vec<u8> {
+    [
+        b"cannot read ",
+        file.as_encoded_bytes(),
+        rest.as_bytes(),
+        b"\n",
+    ]
+    .concat()
+}
+
+fn replay(table: TableSlices, events: EventSlices) -> Response {
+    let rows = table.identifiers.len();
+    let count = events.classes.len();
+    let mut order = vec![0; count];
+    let mut report = vec![0; rows * REPORT_WIDTH];
+    let mut lags = vec![0; rows];
+    let mut working = vec![0; count];
+    let lent = Lent {
+        order: &mut order,
+        report: &mut report,
+        lags: &mut lags,
+        working: &mut working,
+    };
+    let answer = run(table, events, lent);
+    let mut output = answer_text(&answer);
+    let mut error = String::new();
+    if let Some(said) = sentence(&answer, &table, &events) {
+        error = format!("{said}\n");
+    } else {
+        order.truncate(answer.count as usize);
+        output.push_str(&results_text(&order, table.identifiers, &report, &lags));
+    }
+    Response {
+        output: output.into_bytes(),
+        error: error.into_bytes(),
+    }
+}

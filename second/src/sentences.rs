@@ -1,0 +1,166 @@
+//! A refusal as one sentence for a person: where it is and what to mend.
+
+use crate::answer::Answer;
+use crate::shares;
+use crate::slices::{EventSlices, TableSlices};
+
+/// The sentence for a refusal of this table and these events; none for an accepted run.
+pub fn sentence(answer: &Answer, table: &TableSlices, events: &EventSlices) -> Option<String> {
+    let place = answer.place as usize;
+    let said = match answer.number {
+        1 => rows(table),
+        2 => list(events),
+        3 => "a slice lent for the results is too short.".to_string(),
+        4 => format!(
+            "{} has identifier 0; give it a number from 1 to 4294967295.",
+            row_name(place)
+        ),
+        5 => repeated(table, place, answer.second as usize),
+        6 => root(table),
+        7 => parent(table, place),
+        8 => share(table, place),
+        // The first row too deep is just one below the deepest allowed.
+        9 => format!(
+            "{}, has depth 9; put it under a class of depth 7 or less.",
+            class_name(table, place)
+        ),
+        10 => sum(table, place),
+        11 => no_class(events, place),
+        12 => not_sending(table, events, place),
+        13 => length(events, place),
+        14 => format!(
+            "{} is a finish while the line is idle; take it out or put an arrival before it.",
+            event_name(place)
+        ),
+        _ => return None,
+    };
+    Some(format!("refused {}: {said}", answer.number))
+}
+
+/// The word at this place; 0 past the end, which no place of a real refusal is.
+fn word(slice: &[u32], place: usize) -> u32 {
+    slice.get(place).copied().unwrap_or(0)
+}
+
+/// A file has its heading in line 1, so place 0 is in line 2.
+fn line(place: usize) -> u64 {
+    place as u64 + 2
+}
+
+fn row_name(row: usize) -> String {
+    format!("row {row} (line {})", line(row))
+}
+
+fn event_name(event: usize) -> String {
+    format!("event {event} (line {})", line(event))
+}
+
+fn class_name(table: &TableSlices, row: usize) -> String {
+    format!("{}, class {}", row_name(row), word(table.identifiers, row))
+}
+
+fn rows(table: &TableSlices) -> String {
+    let rows = table.identifiers.len();
+    if table.parents.len() != rows || table.shares.len() != rows {
+        return "the table's three slices differ in length; make them equal.".to_string();
+    }
+    let plural = if rows == 1 { "" } else { "s" };
+    format!("the table has {rows} row{plural}; give it 2 to 256.")
+}
+
+fn list(events: &EventSlices) -> String {
+    let count = events.classes.len();
+    if events.lengths.len() != count {
+        return "the list's two slices differ in length; make them equal.".to_string();
+    }
+    format!("the list has {count} events; give it at most 65536.")
+}
+
+fn repeated(table: &TableSlices, row: usize, earlier: usize) -> String {
+    format!(
+        "{} repeats identifier {} of {}; give one of the two another identifier.",
+        row_name(row),
+        word(table.identifiers, row),
+        row_name(earlier)
+    )
+}
+
+fn root(table: &TableSlices) -> String {
+    format!(
+        "{}, is the line itself and has parent {} and share {}; set both to 0.",
+        class_name(table, 0),
+        word(table.parents, 0),
+        word(table.shares, 0)
+    )
+}
+
+fn parent(table: &TableSlices, row: usize) -> String {
+    format!(
+        "{}, has parent {}, which is no earlier row's identifier; \
+         name the identifier of a row above it.",
+        class_name(table, row),
+        word(table.parents, row)
+    )
+}
+
+fn share(table: &TableSlices, row: usize) -> String {
+    let share = word(table.shares, row);
+    let nearest = match (shares::nearest_below(share), shares::nearest_above(share)) {
+        (Some(below), Some(above)) => format!("the nearest allowed are {below} and {above}"),
+        (Some(only), None) | (None, Some(only)) => format!("the nearest allowed is {only}"),
+        (None, None) => "no share is near it".to_string(),
+    };
+    format!(
+        "{}, has share {share}, which is not allowed; {nearest}.",
+        class_name(table, row)
+    )
+}
+
+fn sum(table: &TableSlices, row: usize) -> String {
+    let identifier = word(table.identifiers, row);
+    let sum: u64 = table
+        .parents
+        .iter()
+        .zip(table.shares)
+        .filter(|(parent, _)| **parent == identifier)
+        .map(|(_, share)| u64::from(*share))
+        .sum();
+    format!(
+        "the children of {}, have shares that add up to {sum}; bring them to 840 or less.",
+        class_name(table, row)
+    )
+}
+
+fn no_class(events: &EventSlices, event: usize) -> String {
+    format!(
+        "{} is for class {}, which no row has; name a class of the table.",
+        event_name(event),
+        word(events.classes, event)
+    )
+}
+
+fn not_sending(table: &TableSlices, events: &EventSlices, event: usize) -> String {
+    let class = word(events.classes, event);
+    let found = table.identifiers.iter().position(|i| *i == class);
+    let row = found.unwrap_or(0);
+    let why = if row == 0 {
+        "is the line itself"
+    } else {
+        "has classes below it"
+    };
+    format!(
+        "{} is for class {class}, {}, which {why}; name a class with no class below it.",
+        event_name(event),
+        row_name(row)
+    )
+}
+
+fn length(events: &EventSlices, event: usize) -> String {
+    let name = event_name(event);
+    let class = word(events.classes, event);
+    let length = word(events.lengths, event);
+    if class == 0 {
+        return format!("{name} is a finish with length {length}; a finish has length 0.");
+    }
+    format!("{name}, for class {class}, has length {length}; a packet has 1 to 2048 bytes.")
+}

@@ -1,0 +1,71 @@
+//! Reading the two text files: a heading line, then lines of decimal numbers.
+
+pub const TABLE_HEADING: &str = "identifier,parent,share";
+pub const EVENT_HEADING: &str = "class,length";
+
+/// Why a file's bytes cannot be read.
+#[derive(Debug)]
+pub struct Fault {
+    /// Counted from 1.
+    pub line: usize,
+    pub what: String,
+}
+
+/// The numbers under the heading, column by column.
+pub fn read_columns(bytes: &[u8], heading: &str) -> Result<Vec<Vec<u32>>, Fault> {
+    let mut columns = vec![Vec::new(); heading.split(',').count()];
+    if bytes.is_empty() {
+        check_heading(bytes, heading).map_err(|what| Fault { line: 1, what })?;
+    }
+    for (index, line) in bytes.split_inclusive(|b| *b == b'\n').enumerate() {
+        let read = match without_end(line) {
+            None => Err("the line has no end".to_string()),
+            Some(body) if index == 0 => check_heading(body, heading),
+            Some(body) => read_line(body, &mut columns),
+        };
+        read.map_err(|what| Fault {
+            line: index + 1,
+            what,
+        })?;
+    }
+    Ok(columns)
+}
+
+/// The line without its LF or CR LF; nothing if it has neither.
+fn without_end(line: &[u8]) -> Option<&[u8]> {
+    let body = line.strip_suffix(b"\n")?;
+    Some(body.strip_suffix(b"\r").unwrap_or(body))
+}
+
+fn check_heading(body: &[u8], heading: &str) -> Result<(), String> {
+    if body != heading.as_bytes() {
+        return Err(format!("the heading must be {heading}"));
+    }
+    Ok(())
+}
+
+fn read_line(body: &[u8], columns: &mut [Vec<u32>]) -> Result<(), String> {
+    let fields: Vec<&[u8]> = body.split(|b| *b == b',').collect();
+    if fields.len() != columns.len() {
+        return Err(format!("{} numbers are wanted", columns.len()));
+    }
+    for (index, (field, column)) in fields.iter().zip(columns).enumerate() {
+        let number = read_number(field).map_err(|why| format!("field {} is {why}", index + 1))?;
+        column.push(number);
+    }
+    Ok(())
+}
+
+fn read_number(field: &[u8]) -> Result<u32, &'static str> {
+    if field.is_empty() || !field.iter().all(u8::is_ascii_digit) {
+        return Err("not a decimal number");
+    }
+    let mut number: u32 = 0;
+    for digit in field {
+        number = number
+            .checked_mul(10)
+            .and_then(|n| n.checked_add(u32::from(digit - b'0')))
+            .ok_or("over 4294967295")?;
+    }
+    Ok(number)
+}

@@ -1,0 +1,143 @@
+//! The state of every row and the steps that change it: arrival, choosing, line finished.
+
+use std::collections::VecDeque;
+
+use crate::shares;
+use crate::table::Table;
+
+#[derive(Clone, Copy)]
+pub struct Packet {
+    /// The place of its event.
+    pub place: u32,
+    /// The row of its sending class.
+    pub row: usize,
+    pub length: u32,
+}
+
+/// Tags are in ticks. One step raises the largest tag of all by at most
+/// 2,048 * 705,600, and an event has at most 18 such steps, so after 65,536
+/// events every tag is far below the 64-bit limit.
+#[derive(Clone, Default)]
+pub struct RowState {
+    pub start: u64,
+    pub finish: u64,
+    pub virtual_time: u64,
+    head: Option<Packet>,
+    /// A sending class's packets, first its head; empty at other rows.
+    queue: VecDeque<Packet>,
+}
+
+/// Why a row chooses.
+#[derive(Clone, Copy, PartialEq)]
+enum Reason {
+    /// Its own packet has just been finished by the line.
+    PacketFinished,
+    /// It had no head, and a packet has arrived below it.
+    PacketArrived,
+}
+
+pub struct Tree<'a> {
+    table: &'a Table,
+    pub rows: Vec<RowState>,
+    /// Packets in the order in which they went on the line.
+    pub order: Vec<u32>,
+}
+
+impl<'a> Tree<'a> {
+    pub fn new(table: &'a Table) -> Tree<'a> {
+        Tree {
+            table,
+            rows: vec![RowState::default(); table.rows.len()],
+            order: Vec::new(),
+        }
+    }
+
+    pub fn arrive(&mut self, packet: Packet) {
+        let row = packet.row;
+        self.rows[row].queue.push_back(packet);
+        if self.rows[row].head.is_some() {
+            return;
+        }
+        let start = self.start_after_empty(row);
+        self.set_head(row, packet, start);
+        self.choose_above(row, Reason::PacketArrived);
+    }
+
+    /// Takes the packet off the line and gives it back; nothing if the line is idle.
+    pub fn line_finished(&mut self) -> Option<Packet> {
+        // The root's head is the packet on the line.
+        let packet = self.rows[0].head?;
+        for row in self.table.path(packet.row) {
+            self.rows[row].head = None;
+        }
+        let row = packet.row;
+        self.rows[row].queue.pop_front();
+        // The class renews its head before its parent chooses.
+        if let Some(next) = self.rows[row].queue.front().copied() {
+            let start = self.rows[row].finish;
+            self.set_head(row, next, start);
+        }
+        self.choose_above(row, Reason::PacketFinished);
+        Some(packet)
+    }
+
+    /// Lets the rows above this one choose, upwards, as long as they have no head.
+    fn choose_above(&mut self, row: usize, reason: Reason) {
+        let mut below = row;
+        while let Some(parent) = self.table.rows[below].parent {
+            if self.rows[parent].head.is_some() {
+                return;
+            }
+            self.choose(parent, reason);
+            below = parent;
+        }
+    }
+
+    fn choose(&mut self, row: usize, reason: Reason) {
+        let Some(packet) = self.take_from_children(row) else {
+            return;
+        };
+        self.rows[row].virtual_time += u64::from(shares::WHOLE) * u64::from(packet.length);
+        if self.table.rows[row].parent.is_none() {
+            self.rows[row].head = Some(packet);
+            self.order.push(packet.place);
+            return;
+        }
+        let start = match reason {
+            Reason::PacketFinished => self.rows[row].finish,
+            Reason::PacketArrived => self.start_after_empty(row),
+        };
+        self.set_head(row, packet, start);
+    }
+
+    /// Raises the row's virtual time as far as needed and picks among its children.
+    fn take_from_children(&mut self, row: usize) -> Option<Packet> {
+        let children = &self.table.rows[row].children;
+        let with_head = || children.iter().filter(|c| self.rows[**c].head.is_some());
+        let least_start = with_head().map(|c| self.rows[*c].start).min()?;
+        let virtual_time = self.rows[row].virtual_time.max(least_start);
+        let taken = with_head()
+            .filter(|c| self.rows[**c].start <= virtual_time)
+            .min_by_key(|c| (self.rows[**c].finish, **c))?;
+        let packet = self.rows[*taken].head;
+        self.rows[row].virtual_time = virtual_time;
+        packet
+    }
+
+    /// The start of a row that had nothing to send: no earlier than its parent's time.
+    fn start_after_empty(&self, row: usize) -> u64 {
+        let own = self.rows[row].finish;
+        match self.table.rows[row].parent {
+            Some(parent) => own.max(self.rows[parent].virtual_time),
+            None => own,
+        }
+    }
+
+    fn set_head(&mut self, row: usize, packet: Packet, start: u64) {
+        let cost = shares::cost(self.table.rows[row].share);
+        let state = &mut self.rows[row];
+        state.head = Some(packet);
+        state.start = start;
+        state.finish = start + u64::from(packet.length) * cost;
+    }
+}

@@ -1,0 +1,151 @@
+//! Runs where an easy mistake in the steps would show; the numbers are worked by hand.
+
+use crate::common::{accepted, Event, Row, FINISH, HALVES, P4_ROWS, ROOT};
+
+/// Two halves of the line, each handed down whole to one sending class.
+const HANDED_DOWN: [Row; 5] = [ROOT, (2, 1, 420), (3, 1, 420), (4, 2, 840), (5, 3, 840)];
+
+const HANDED_DOWN_EVENTS: [Event; 8] = [
+    (4, 10),
+    (4, 10),
+    (4, 10),
+    (5, 2048),
+    FINISH,
+    FINISH,
+    FINISH,
+    FINISH,
+];
+
+/// A byte costs each class 1,680.
+/// Event 0: class 10 has S 0, F 16800; root V 8400.
+/// Event 1: class 20 has S 8400, F 8400 + 168000 = 176400.
+/// Finish: class 10 has S 16800, F 33600, the least F, but S is over V 8400,
+/// so packet 1 goes; V 92400. Finish: packet 2 goes; V 100800.
+#[test]
+fn the_least_finish_waits_until_its_start_is_reached() {
+    let events = [(10, 10), (20, 100), (10, 10), FINISH, FINISH, FINISH];
+    let outcome = accepted(&HALVES, &events);
+    assert_eq!(outcome.order, [0, 1, 2]);
+    assert_eq!(
+        outcome.report,
+        [
+            [120, 0, 0, 100800, 0],
+            [20, 16800, 33600, 0, 0],
+            [100, 8400, 176400, 0, 0],
+        ]
+    );
+}
+
+/// Event 0: class 10 has S 0, F 16800; root V 8400.
+/// Event 3: class 20 has S 8400, F 8400 + 2048 * 1680 = 3449040.
+/// Finish 1: class 10 has S 16800, F 33600; only class 20 has S at most 8400,
+/// so packet 3 goes; V 8400 + 2048 * 840 = 1728720.
+/// Finish 2: packet 1 goes; V 1737120.
+/// Finish 3: class 10 has S 33600 (not V 1737120), F 50400; packet 2 goes; V 1745520.
+#[test]
+fn the_next_queued_packet_starts_at_the_old_finish() {
+    let events = [
+        (10, 10),
+        (10, 10),
+        (10, 10),
+        (20, 2048),
+        FINISH,
+        FINISH,
+        FINISH,
+        FINISH,
+    ];
+    let outcome = accepted(&HALVES, &events);
+    assert_eq!(outcome.order, [0, 3, 1, 2]);
+    assert_eq!(
+        outcome.report,
+        [
+            [2078, 0, 0, 1745520, 0],
+            [30, 33600, 50400, 0, 0],
+            [2048, 8400, 3449040, 0, 0],
+        ]
+    );
+}
+
+/// Rows 2 and 3 have the tags of the run above; a byte costs classes 4 and 5 840.
+/// Event 0: class 4 has S 0, F 8400; row 1 V 8400, S 0, F 16800; root V 8400.
+/// Event 3: class 5 has S 0, F 1720320; row 2 V 1720320, S 8400, F 3449040.
+/// Finish 1: class 4 S 8400, F 16800; row 1 V 16800, S 16800, F 33600; packet 3 goes.
+/// Finish 2: row 2 has no head and keeps its numbers; packet 1 goes; root V 1737120.
+/// Finish 3: class 4 S 16800, F 25200; row 1 V 25200, S 33600 (not 1737120), F 50400.
+#[test]
+fn an_inner_row_whose_packet_finished_starts_at_its_own_finish() {
+    let outcome = accepted(&HANDED_DOWN, &HANDED_DOWN_EVENTS);
+    assert_eq!(outcome.order, [0, 3, 1, 2]);
+    assert_eq!(
+        outcome.report,
+        [
+            [2078, 0, 0, 1745520, 0],
+            [30, 33600, 50400, 25200, 0],
+            [2048, 8400, 3449040, 1720320, 0],
+            [30, 16800, 25200, 0, 0],
+            [2048, 0, 1720320, 0, 0],
+        ]
+    );
+}
+
+/// The run above, then a packet for class 4: S 25200, F 33600; row 1 V 33600,
+/// S the larger of 50400 and root V 1745520, F 1762320; root V 1753920.
+#[test]
+fn an_inner_row_that_was_empty_starts_at_its_parents_time() {
+    let mut events = HANDED_DOWN_EVENTS.to_vec();
+    events.push((4, 10));
+    let outcome = accepted(&HANDED_DOWN, &events);
+    assert_eq!(outcome.order, [0, 3, 1, 2, 8]);
+    assert_eq!(outcome.report[0], [2078, 0, 0, 1753920, 1]);
+    assert_eq!(outcome.report[1], [30, 1745520, 1762320, 33600, 1]);
+    assert_eq!(outcome.report[3], [30, 25200, 33600, 0, 1]);
+}
+
+/// Event 0: class 20 has S 0, F 1680000; root V 840000.
+/// Event 1: class 10 has S 840000, F 856800.
+/// Finish 1: class 20 has S 1680000, F 3360000; packet 1 goes; V 848400.
+/// Finish 2: class 10 has S 856800, F 873600; V jumps to 856800, packet 2 goes;
+/// V 865200. Without the renewed head class 20 alone would be there to choose.
+/// Finish 3: V jumps to 1680000, packet 3 goes; V 2520000.
+#[test]
+fn a_class_renews_its_head_before_its_parent_chooses() {
+    let events = [
+        (20, 1000),
+        (10, 10),
+        (10, 10),
+        (20, 1000),
+        FINISH,
+        FINISH,
+        FINISH,
+        FINISH,
+    ];
+    let outcome = accepted(&HALVES, &events);
+    assert_eq!(outcome.order, [0, 1, 2, 3]);
+    assert_eq!(
+        outcome.report,
+        [
+            [2020, 0, 0, 2520000, 0],
+            [20, 856800, 873600, 0, 0],
+            [2000, 1680000, 3360000, 0, 0],
+        ]
+    );
+}
+
+/// P4 cut after its first finish: class 4 is empty, but its parent still holds
+/// class 5's packet, so the parent's backlog goes on from event 0.
+#[test]
+fn an_inner_class_is_behind_as_long_as_anything_below_it_waits() {
+    let outcome = accepted(&P4_ROWS, &[(4, 100), (3, 100), (5, 100), FINISH]);
+    assert_eq!(outcome.held(), [2, 1, 1, 0, 1]);
+    assert_eq!(outcome.lags, [0, -42000, 42000, 0, 42000]);
+}
+
+/// Class 10 is empty after the first finish and holds a packet again from event 3.
+/// Since then the line has finished 100 bytes and class 10 none.
+#[test]
+fn a_lag_counts_from_the_last_empty_moment_only() {
+    let events = [(10, 100), (20, 100), FINISH, (10, 50), FINISH];
+    let outcome = accepted(&HALVES, &events);
+    assert_eq!(outcome.order, [0, 1, 3]);
+    assert_eq!(outcome.lags, [0, 42000, 0]);
+}
