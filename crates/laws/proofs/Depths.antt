@@ -1,0 +1,117 @@
+-- How deep the rows on a way are, a proof that goes up a way, and which rows are off it.
+-- Assumes nothing.
+use Prim.Native.Nat.{ℕ, zero, suc, _+_, _-_, _<_}
+use mathlib.Core.Path.{_≡_, refl, sym, _∙_, ap, subst}
+use mathlib.Core.Logic.{_≢_, _⊎_, inl, inr, ⊎-elim}
+use mathlib.Core.Bool.{Bool, true, false, _||_, false≢true}
+use native.Mathlib.Decide.{ℕ-discrete}
+use native.Mathlib.Omega.{arith}
+use borrow.Author.Tests.{eqb-true, ne-eqb}
+use lib.Dec.{eqb}
+use Rattle.rules.specs.Classes.{Tree, parent, depth, sends}
+use Rattle.rules.specs.Promise.{within}
+use Rattle.laws.specs.Sound.{Sound, Kid, Inner, Sender}
+use Rattle.laws.proofs.Ways.{its-parent, within-root, within-next, no-deeper, self-within, parent-within, child-within, one-child, sender-alone}
+
+-- a test is false where its truth is absurd
+refuted : (b : Bool) → (b ≡ true → ⊥) → b ≡ false
+refuted true h = absurd (h refl)
+refuted false h = refl
+
+-- either of two tests, and which
+or-second : (b c : Bool) → c ≡ true → (b || c) ≡ true
+or-second true c e = refl
+or-second false c e = e
+
+or-other : (b c : Bool) → (b || c) ≡ true → b ≡ false → c ≡ true
+or-other true c e none = absurd (false≢true (sym none))
+or-other false c e none = e
+
+module _ (tree : Tree) (sound : Sound tree) where
+  -- the way from a child is the child and its parent's way
+  within-kid : (p r j : ℕ) → Kid tree p r → within tree j r ≡ (eqb r j || within tree j p)
+  within-kid p r j kid =
+      subst (λ (q : ℕ). within tree j r ≡ (eqb r j || within tree j q)) (kid .under) (within-next tree sound j r (kid .positive) (kid .inside))
+
+  pub off-at-parent : (p r j : ℕ) → Kid tree p r → within tree j r ≡ false → within tree j p ≡ false
+  off-at-parent p r j kid off =
+      refuted (within tree j p) (λ on. false≢true (sym off ∙ within-kid p r j kid ∙ or-second (eqb r j) (within tree j p) on))
+
+  pub on-at-parent : (p r j : ℕ) → Kid tree p r → within tree j r ≡ true → j ≢ r → within tree j p ≡ true
+  on-at-parent p r j kid on other =
+      or-other (eqb r j) (within tree j p) (sym (within-kid p r j kid) ∙ on) (ne-eqb r j (λ e. other (sym e)))
+
+  -- ── depths ──
+
+  -- a child is one deeper than its parent
+  pub kid-deeper : (p c : ℕ) → Kid tree p c → depth tree c ≡ suc (depth tree p)
+  kid-deeper p c kid = rw (← kid .under) (sound .deeper c (kid .positive) (kid .inside))
+
+  -- a row deeper than the root is its parent's child
+  pub lower-kid : (d r : ℕ) → r < tree .rows → depth tree r ≡ suc d → Kid tree (parent tree r) r
+  lower-kid d zero inside deep = let top = sound .root-depth in absurd (omega arith)
+  lower-kid d (suc r) inside deep = its-parent tree sound (suc r) (omega arith) inside
+
+  -- a row on the way from r is r, or less deep
+  pub way-depth : (r j : ℕ) → r < tree .rows → within tree j r ≡ true → (j ≡ r) ⊎ (depth tree j < depth tree r)
+  way-depth zero j inside on = inl (sym (eqb-true 0 j (sym (within-root tree sound j) ∙ on)))
+  way-depth (suc r) j inside on = go (ℕ-discrete j (suc r))
+    where
+      go : Dec (j ≡ suc r) → (j ≡ suc r) ⊎ (depth tree j < depth tree (suc r))
+      go (yes e) = inl e
+      go (no other) =
+          let kid = its-parent tree sound (suc r) (omega arith) inside in
+          let deeper = sound .deeper (suc r) (omega arith) inside in
+          let above = on-at-parent (parent tree (suc r)) (suc r) j kid on other in
+          let high = no-deeper tree sound j (parent tree (suc r)) (sound .parent-row (suc r) (omega arith) inside) above in
+          inr (omega arith)
+
+  -- a parent of a row on the way from r is less deep than r
+  pub way-higher : (r p c : ℕ) → r < tree .rows → Kid tree p c → within tree c r ≡ true → depth tree p < depth tree r
+  way-higher r p c inside kid on =
+      let deeper = kid-deeper p c kid in
+      let high = no-deeper tree sound c r inside on in
+      omega arith
+
+  pub deeper-apart : (j r : ℕ) → depth tree j < depth tree r → j ≢ r
+  deeper-apart j r less e = let f = ap (depth tree) e in omega arith
+
+  -- ── up the way ──
+
+  -- what k has, and a parent on the way from k has where its child on the way has it, all rows on the way have
+  module _ (k : ℕ) (inside-k : k < tree .rows) (P : ℕ → Type 0) (first : P k)
+      (step : (p c : ℕ) → Kid tree p c → within tree c k ≡ true → P c → P p) where
+    upwards-from : (n r : ℕ) → r < tree .rows → within tree r k ≡ true → depth tree r + n ≡ depth tree k → P r
+    upwards-from zero r inside on far =
+        ⊎-elim (λ e. subst P (sym e) first) (λ less. absurd (omega arith)) (way-depth k r inside-k on)
+    upwards-from (suc n) r inside on far =
+        let below = child-within tree sound r k inside-k on (deeper-apart r k (omega arith)) in
+        let deeper = kid-deeper r (below .0) (below .1) in
+        step r (below .0) (below .1) (below .2) (upwards-from n (below .0) (below .1 .inside) (below .2) (omega arith))
+
+    pub upwards : (r : ℕ) → r < tree .rows → within tree r k ≡ true → P r
+    upwards r inside on =
+        let high = no-deeper tree sound r k inside-k on in
+        upwards-from (depth tree k - depth tree r) r inside on (omega arith)
+
+  -- ── rows off the way ──
+
+  pub off-apart : (k j : ℕ) → within tree j k ≡ false → j ≢ k
+  off-apart k j off e = false≢true (sym off ∙ ap (λ (i : ℕ). within tree i k) e ∙ self-within tree sound k)
+
+  module _ (k : ℕ) (inside : k < tree .rows) where
+    pub kid-off : (p j : ℕ) → Kid tree p j → within tree p k ≡ false → within tree j k ≡ false
+    kid-off p j kid off = refuted (within tree j k) (λ on. false≢true (sym off ∙ parent-within tree sound p j k inside kid on))
+
+    pub sibling-off : (p c j : ℕ) → Kid tree p c → within tree c k ≡ true → Kid tree p j → j ≢ c → within tree j k ≡ false
+    sibling-off p c j kid on kid-j apart =
+        refuted (within tree j k) (λ on-j. apart (one-child tree sound p j c k inside kid-j kid on-j on))
+
+    pub sender-off : (j : ℕ) → Sender tree j → j ≢ k → within tree j k ≡ false
+    sender-off j sender apart = refuted (within tree j k) (λ on. apart (sym (sender-alone tree sound j k sender inside on)))
+
+  -- an inner row on the way from a sending class has a child on it
+  pub inner-below :
+      (k p : ℕ) → Sender tree k → Inner tree p → within tree p k ≡ true → (c : ℕ) × Kid tree p c × (within tree c k ≡ true)
+  inner-below k p sender inner on =
+      child-within tree sound p k (sender .inside) on (λ e. false≢true (sym (inner .no-sender) ∙ ap (sends tree) e ∙ sender .sender))

@@ -1,0 +1,60 @@
+-- The report shows the plain state: the words that it leaves out, the root's tags and the virtual times of sending classes, are
+-- never written, so they are zero in the state too.
+-- Assumes nothing.
+use Prim.Native.Nat.{ℕ, _<_}
+use mathlib.Core.Path.{_≡_, refl, sym, _∙_, ap}
+use mathlib.Core.Bool.{Bool, true, false, cond, _&&_, not}
+use mathlib.Core.List.{[], _∷_}
+use native.Mathlib.Omega.{arith}
+use lib.Dec.{eqb, ltb}
+use borrow.Author.Tests.{eqb-true, ltb-true}
+use Rattle.rules.specs.Classes.{Tree, sends, has-child}
+use Rattle.rules.specs.Events.{Events}
+use Rattle.rules.specs.Box.{start, finish, virtual, bytes-of, held-by}
+use Rattle.rules.specs.Steps.{after}
+use Rattle.rules.specs.Outcome.{row-report}
+use Rattle.laws.specs.Kept.{Kept}
+use Rattle.laws.specs.History.{Accepted, largest-for}
+use Rattle.laws.proofs.Keeping.{kept}
+
+-- leaving out a word that is zero
+left-out : (test : Bool) (word : ℕ) → (test ≡ true → word ≡ 0) → cond test 0 word ≡ word
+left-out true word none = sym (none refl)
+left-out false word none = refl
+
+first-holds : (one other : Bool) → (one && other) ≡ true → one ≡ true
+first-holds true other both = refl
+first-holds false other both = both
+
+sends-positive : (tree : Tree) (k : ℕ) → sends tree k ≡ true → 0 < k
+unfolding sends
+sends-positive tree k is = ltb-true 0 k (first-holds (ltb 0 k) (not (has-child tree k (tree .rows))) is)
+
+module _ (tree : Tree) (events : Events) (n : ℕ) (ok : Accepted tree events n) where
+  keeps : Kept tree (λ (r : ℕ). largest-for tree events r n) n (after tree events n)
+  keeps = kept tree events n n (omega arith) ok
+
+  -- the root's tags
+  pub start-shown : (r : ℕ) → cond (eqb r 0) 0 (start (after tree events n .rows) r) ≡ start (after tree events n .rows) r
+  start-shown r = left-out (eqb r 0) _ (λ root. ap (start (after tree events n .rows)) (eqb-true r 0 root) ∙ keeps .root-start)
+
+  pub finish-shown : (r : ℕ) → cond (eqb r 0) 0 (finish (after tree events n .rows) r) ≡ finish (after tree events n .rows) r
+  finish-shown r = left-out (eqb r 0) _ (λ root. ap (finish (after tree events n .rows)) (eqb-true r 0 root) ∙ keeps .root-finish)
+
+  -- a sending class's virtual time
+  pub virtual-shown : (r : ℕ) → r < tree .rows → cond (sends tree r) 0 (virtual (after tree events n .rows) r) ≡ virtual (after tree events n .rows) r
+  virtual-shown r inside =
+      left-out (sends tree r) _ (λ is. keeps .sender-virtual r (record { positive = sends-positive tree r is; inside = inside; sender = is }))
+
+  -- so a row's words are its plain state
+  pub row-shown :
+      (r : ℕ) → r < tree .rows
+      → row-report tree (after tree events n) r
+      ≡ bytes-of (after tree events n) r
+      ∷ start (after tree events n .rows) r
+      ∷ finish (after tree events n .rows) r
+      ∷ virtual (after tree events n .rows) r
+      ∷ held-by (after tree events n) r
+      ∷ []
+  unfolding row-report
+  row-shown r inside = rw (start-shown r, finish-shown r, virtual-shown r inside)

@@ -1,0 +1,98 @@
+-- The theorems on a run, said of the lent slices that it leaves: whatever was lent, where the answer's number is 0.
+-- Assumes nothing.
+use Prim.Native.Nat.{ℕ, zero, suc, _+_, _*_, _-_, _≤_, _<_}
+use mathlib.Core.Path.{_≡_, refl, sym, _∙_, ap, subst}
+use mathlib.Core.Logic.{_≢_}
+use mathlib.Core.Bool.{Bool, true, false, cond}
+use mathlib.Core.List.{List}
+use native.Mathlib.Omega.{arith}
+use lib.ListN.{length, getD, take}
+use lib.IntN.{pos}
+use Rattle.rules.specs.Limits.{report-words, whole}
+use Rattle.rules.specs.Classes.{Tree, tree-of}
+use Rattle.rules.specs.Events.{Events, count}
+use Rattle.rules.specs.Box.{Box, bytes-of, held-by, has-head}
+use Rattle.rules.specs.Steps.{after}
+use Rattle.rules.specs.Outcome.{Lent, outcome, row-report, room-of}
+use Rattle.rules.specs.Promise.{finish-count, arrived, largest, packets-for, bytes-for, finished, finished-in, holds, Backlogged, Ratio, number}
+use Rattle.laws.specs.Sound.{Sender}
+use Rattle.laws.specs.History.{Accepted, arrivals-of, only-for}
+use Rattle.laws.proofs.Trees.{accepted}
+use Rattle.laws.proofs.History.{bytes-counted, held-counted, holds-held, order-length, first-in-first-out, once}
+use Rattle.laws.proofs.Promise.{promised, lag-bound}
+use Rattle.laws.proofs.Results.{not-refused, last, count-is, order-is, word-is, lag-is}
+
+-- the packets that a run put on the line, in their order
+abbrev pub sent : Lent → List ℕ
+sent lent = take (outcome lent .answer .count) (outcome lent .order)
+
+module _ (lent : Lent) (done : outcome lent .answer .number ≡ 0) where
+  abbrev tree : Tree
+  tree = tree-of (lent .table)
+
+  abbrev events : Events
+  events = lent .events
+
+  abbrev all : ℕ
+  all = count (lent .events)
+
+  ok : Accepted tree events all
+  ok = accepted (lent .table) (lent .events) (room-of lent) (not-refused lent done)
+
+  -- ── the order ──
+
+  pub count-sent : length (sent lent) ≡ outcome lent .answer .count
+  count-sent = ap length (order-is lent done) ∙ sym (count-is lent done)
+
+  -- as many are finished as there were finishes; one more is on the line exactly while something is held
+  pub finished-sent : outcome lent .answer .count ≡ finish-count events all + cond (has-head (last lent done .rows) 0) 1 0
+  finished-sent = count-is lent done ∙ order-length tree events all ok
+
+  -- no packet is sent twice
+  pub sent-once : (i j : ℕ) → i < j → j < outcome lent .answer .count → getD (sent lent) i 0 ≢ getD (sent lent) j 0
+  sent-once i j before inside =
+      let size = count-is lent done in
+      rw (order-is lent done) (once tree events all i j ok before (omega arith))
+
+  -- what is sent of a class is the first of its arrivals, in their order
+  pub sent-in-turn :
+      (k : ℕ) → Sender tree k → only-for tree events k (sent lent) ≡ take (length (only-for tree events k (sent lent))) (arrivals-of tree events k all)
+  sent-in-turn k sender = rw (order-is lent done) (first-in-first-out tree events all k ok sender)
+
+  -- ── the report ──
+
+  pub bytes-reported :
+      (r : ℕ) → r < tree .rows → getD (outcome lent .report) (report-words * r + 0) 0 ≡ bytes-for tree events r (finished events (sent lent) all)
+  unfolding row-report
+  bytes-reported r inside =
+      word-is lent done r 0 inside (omega arith) ∙ rw (order-is lent done) (bytes-counted tree events all all r (omega arith) ok inside)
+
+  pub held-reported :
+      (r : ℕ) → r < tree .rows
+      → arrived tree events r all ≡ packets-for tree events r (finished events (sent lent) all) + getD (outcome lent .report) (report-words * r + 4) 0
+  unfolding row-report
+  held-reported r inside =
+      rw (word-is lent done r 4 inside (omega arith), order-is lent done) (held-counted tree events all all r (omega arith) ok inside)
+
+  -- ── the promise on shares ──
+
+  -- for any class that holds a packet after each event of a stretch: what the whole line finished in it is at most the number
+  pub share-is-a-number :
+      (k a b : ℕ) → Sender tree k → a ≤ b → b ≤ all → Backlogged tree events (sent lent) k a b
+      → bytes-for tree events 0 (finished-in events (sent lent) a b)
+      * number tree (largest events all) k (bytes-for tree events k (finished-in events (sent lent) a b)) .denominator
+      ≤ number tree (largest events all) k (bytes-for tree events k (finished-in events (sent lent) a b)) .numerator
+  share-is-a-number k a b sender order within =
+      subst (λ (order : List ℕ). Backlogged tree events order k a b → Promised order) (sym (order-is lent done))
+      (promised tree events all ok k a b sender order within)
+    where
+      Promised : List ℕ → Type 0
+      Promised order =
+          bytes-for tree events 0 (finished-in events order a b)
+          * number tree (largest events all) k (bytes-for tree events k (finished-in events order a b)) .denominator
+          ≤ number tree (largest events all) k (bytes-for tree events k (finished-in events order a b)) .numerator
+
+  -- ── lags ──
+
+  pub no-lag-above : (r lagging : ℕ) → r < tree .rows → getD (outcome lent .lags) r (pos 0) ≡ pos lagging → lagging ≤ 3 * whole * largest events all
+  no-lag-above r lagging inside is = lag-bound tree events all ok r all lagging inside (omega arith) (sym (lag-is lent done r inside) ∙ is)

@@ -1,0 +1,7 @@
+-- What the theorems speak of: sound trees, what an event does at one level, a level's balance, a well-kept box.
+pub mod Sound
+pub mod Moves
+pub mod Level
+pub mod Kept
+pub mod History
+pub mod Counts
