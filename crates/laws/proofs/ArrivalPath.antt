@@ -13,10 +13,10 @@ use Rattle.rules.specs.Promise.{within}
 use Rattle.rules.specs.declared.Why.the-variants.{Arrived}
 use Rattle.laws.specs.Sound.{Sound, Kid, Inner, Sender}
 use Rattle.laws.specs.Moves.{Full, SameHead, Settled, SameKid, SameRow, Still, Headed, Arriving, joins, opens, ArrivalAt}
-use Rattle.laws.proofs.Ways.{its-parent, climb, parent-is-inner, root-inner, root-within, parent-within, child-within, one-child}
-use Rattle.laws.proofs.Choosing.{new-head-full, new-head-elsewhere, new-head-here}
+use Rattle.laws.proofs.Heads.{has-true, has-false, same-row, then-same, still-rows}
+use Rattle.laws.proofs.Ways.{parent-is-inner, root-inner, parent-within, child-within}
 use Rattle.laws.proofs.Depths.{kid-deeper, way-higher, deeper-apart, upwards, off-apart, kid-off, sibling-off, sender-off, inner-below}
-use Rattle.laws.proofs.Rising.{same-row, then-same, still-rows, no-head, some-head}
+use Rattle.laws.proofs.Choosing.{new-head-full, new-head-elsewhere, new-head-here}
 use Rattle.laws.proofs.Rising.{Chosen, nobody, somebody, Risen, rises, root-tags, pick-before, next-start-same, taken-head, taken-headed, front-headed}
 use Rattle.laws.proofs.Settling.{Move, rests, takes, Own, own-same, settles}
 
@@ -28,10 +28,6 @@ fronted tree place k length a = new-head tree Arrived k (suc place) length k a
 abbrev carried-up : Tree → ℕ → ℕ → ℕ → Rows → Rows
 carried-up tree place k length a = up (depth tree k) tree Arrived k (fronted tree place k length a)
 
--- row r has this packet of class k for its head
-abbrev Carries : Rows → ℕ → ℕ → ℕ → ℕ → Type 0
-Carries b place k length r = (head b r ≡ suc place) × (head-length b r ≡ length) × (head-class b r ≡ k)
-
 module _ (tree : Tree) (sound : Sound tree) (a : Rows) (full : Full a) (settled : Settled tree a) where
   module _ (place k length : ℕ) (sender : Sender tree k) (some : 0 < length) where
     -- what holds where k has a head and nothing changes, and where it has none, holds
@@ -41,8 +37,8 @@ module _ (tree : Tree) (sound : Sound tree) (a : Rows) (full : Full a) (settled 
     by-head P behind first = go (has-head a k) refl
       where
         go : (b : Bool) → has-head a k ≡ b → P (cond b a (carried-up tree place k length a))
-        go true e = behind (some-head a k e)
-        go false e = first (no-head a k e)
+        go true e = behind (has-true a k e)
+        go false e = first (has-false a k e)
 
     -- ── the class had no head ──
 
@@ -258,7 +254,7 @@ module _ (tree : Tree) (sound : Sound tree) (a : Rows) (full : Full a) (settled 
         by-head (λ b. ((j : ℕ) → Sender tree j → virtual b j ≡ virtual a j) × (start b 0 ≡ start a 0) × (finish b 0 ≡ finish a 0))
         (λ has. (λ j other. refl, refl, refl)) quiet
 
-    -- the line: a packet on it stays there; else the packet that arrived goes on it
+    -- the packet on the line stays there
     pub arrives-line-busy : head a 0 ≢ 0 → SameHead a 0 (arrives tree place k length a) 0
     arrives-line-busy busy = go (arrives-at 0 (root-inner tree sound))
       where
@@ -269,45 +265,3 @@ module _ (tree : Tree) (sound : Sound tree) (a : Rows) (full : Full a) (settled 
             by-move : Arriving tree a after 0 c → SameHead a 0 after 0
             by-move (joins has top) = top .head-same
             by-move (opens j idle pick) = absurd (busy idle)
-
-    -- where no row has a head, a row on the way takes its child on the way: no other child has one
-    carries-up :
-        ((r : ℕ) → r < tree .rows → head a r ≡ 0)
-        → (p c : ℕ) → Kid tree p c → within tree c k ≡ true → Carries after place k length c → Carries after place k length p
-    carries-up idle p c kid on here = go (arrives-at p inner)
-      where
-        inner : Inner tree p
-        inner = parent-is-inner tree sound p c kid
-
-        go : Still tree a after p ⊎ ((e : ℕ) × ArrivalAt tree a after k p e) → Carries after place k length p
-        go (inl still) = let e = still .kids c kid in let f = idle c (kid .inside) in absurd (omega arith)
-        go (inr (e, at)) = by-move (at .move)
-          where
-            by-move : Arriving tree a after p e → Carries after place k length p
-            by-move (joins has top) = absurd (has (idle p (inner .inside)))
-            by-move (opens j none pick) = taken (ℕ-discrete j e)
-              where
-                taken : Dec (j ≡ e) → Carries after place k length p
-                taken (yes same) =
-                    let j-c = same ∙ one-child tree sound p e c k (sender .inside) (at .kid) kid (at .on-path) on in
-                    let f = subst (λ (i : ℕ). Carries after place k length i) (sym j-c) here in
-                    let g = pick .takes in
-                    omega arith
-                taken (no other) =
-                    let f = at .others j (pick .kid) other in
-                    let g = idle j (pick .kid .inside) in
-                    let h = pick .waiting in
-                    absurd (omega arith)
-
-    pub arrives-line-idle :
-        head a 0 ≡ 0
-        → (head (arrives tree place k length a) 0 ≡ suc place) × (head-length (arrives tree place k length a) 0 ≡ length)
-        × (head-class (arrives tree place k length a) 0 ≡ k)
-    arrives-line-idle idle =
-        upwards tree sound k (sender .inside) (Carries after place k length) (arrives-first (everywhere k (sender .inside))) (carries-up everywhere) 0
-        (sound .some-rows) (root-within tree sound k (sender .inside))
-      where
-        everywhere : (r : ℕ) → r < tree .rows → head a r ≡ 0
-        everywhere =
-            climb tree sound (λ r. head a r ≡ 0) idle
-            (λ r positive inside none. settled .idle-below (parent tree r) none r (its-parent tree sound r positive inside))

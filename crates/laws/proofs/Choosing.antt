@@ -3,12 +3,12 @@
 use Prim.Native.Nat.{ℕ, _+_, _*_, _≤_, _<_, max}
 use mathlib.Core.Path.{_≡_, refl, sym, _∙_}
 use mathlib.Core.Logic.{_≢_, _⊎_, inl, inr}
-use mathlib.Core.Bool.{Bool, true, false, and-eq-true-iff}
+use mathlib.Core.Bool.{true, false, and-eq-true-iff}
 use native.Mathlib.Decide.{ℕ-discrete, decLe}
 use native.Mathlib.Omega.{arith}
-use lib.Dec.{leb, eqb}
+use lib.Dec.{leb}
 use lib.Seq.{getD-set-other}
-use borrow.Author.Tests.{leb-true, eqb-false, not-true, le-leb, eq-eqb, ne-eqb}
+use borrow.Author.Tests.{leb-true, le-leb, eq-eqb, ne-eqb}
 use Rattle.rules.specs.Limits.{most-rows, ticks}
 use Rattle.rules.specs.Shares.{charge}
 use Rattle.rules.specs.Classes.{Tree, parent, share, child}
@@ -19,38 +19,15 @@ use Rattle.rules.specs.declared.Why.{Why}
 use Rattle.rules.specs.declared.Why.the-variants.{Finished, Arrived}
 use Rattle.laws.specs.Sound.{Sound, Kid, Inner}
 use Rattle.laws.specs.Moves.{Full, SameHead, SameKid, SameRow, Pick}
-use Rattle.laws.proofs.Ways.{kid-child, child-kid, kid-apart}
-use Rattle.laws.proofs.Least.{Best, Found, found, both-ways}
+use Rattle.laws.proofs.Tests.{both-ways}
+use Rattle.laws.proofs.Heads.{has-true, some-has}
+use Rattle.laws.proofs.Ways.{kid-child, child-kid, its-parent, kid-apart}
+use Rattle.laws.proofs.Least.{Best, Found, found}
 use Rattle.laws.proofs.Writing.{Wrote, written, wrote-full, wrote-elsewhere, wrote-both}
 use Rattle.laws.proofs.Writing.{with-head-wrote, with-virtual-wrote, new-head-wrote}
 
--- the least of some rows: 0 where none passes; else one that passes, with no lesser key among those that pass
-pub least-none : (test : ℕ → Bool) (key : ℕ → ℕ) (n : ℕ) → test 0 ≡ false → least test key n ≡ 0 → (j : ℕ) → j < n → test j ≡ false
-least-none test key n no-root none j inside = go (found test key no-root n)
-  where
-    go : Found test key n (least test key n) → test j ≡ false
-    go (inl f) = f .1 j inside
-    go (inr f) = absurd (f .0 none)
+-- ── a row other than the root with a new head ──
 
-pub least-some :
-    (test : ℕ → Bool) (key : ℕ → ℕ) (n : ℕ) → test 0 ≡ false → least test key n ≢ 0
-    → (least test key n < n) × (test (least test key n) ≡ true) × ((j : ℕ) → j < n → test j ≡ true → key (least test key n) ≤ key j)
-least-some test key n no-root some = go (found test key no-root n)
-  where
-    go : Found test key n (least test key n) → Best test key n (least test key n)
-    go (inl f) = absurd (some (f .0))
-    go (inr f) = f .1
-
--- ── writing one row ──
-
-module _ (r packet length class : ℕ) (x : Rows) (full : Full x) where
-  pub with-head-full : Full (with-head r packet length class x)
-  with-head-full = wrote-full (with-head-wrote r x packet length class) full
-
-  pub with-head-elsewhere : (j : ℕ) → j ≢ r → SameRow x (with-head r packet length class x) j
-  with-head-elsewhere j apart = wrote-elsewhere (with-head-wrote r x packet length class) j apart
-
--- a row other than the root with a new head
 module _ (tree : Tree) (sound : Sound tree) (why : Why) (r packet length class : ℕ) (inside : r < tree .rows) (x : Rows) (full : Full x) where
   pub new-head-full : Full (new-head tree why r packet length class x)
   new-head-full = wrote-full (new-head-wrote tree why r packet length class x) full
@@ -99,14 +76,14 @@ module _ (tree : Tree) (x : Rows) (p : ℕ) where
   waits-root = refl
 
   kid-waits : (j : ℕ) → Kid tree p j → head x j ≢ 0 → waits tree x p j ≡ true
-  unfolding waits has-head
-  kid-waits j kid some = rw (kid-child tree p j kid, ne-eqb (head x j) 0 some)
+  unfolding waits
+  kid-waits j kid some = rw (kid-child tree p j kid, some-has x j some)
 
   waits-kid : (j : ℕ) → j < tree .rows → waits tree x p j ≡ true → Kid tree p j × (head x j ≢ 0)
-  unfolding waits has-head
+  unfolding waits
   waits-kid j inside is =
       let parts = and-eq-true-iff (child tree p j) (has-head x j) .0 is in
-      (child-kid tree p j inside (parts .0), eqb-false (head x j) 0 (not-true (eqb (head x j) 0) (parts .1)))
+      (child-kid tree p j inside (parts .0), has-true x j (parts .1))
 
   eligible-root : (v : ℕ) → eligible tree x p v 0 ≡ false
   unfolding eligible
@@ -202,7 +179,7 @@ same-start :
 unfolding next-start with-virtual
 same-start tree sound Finished p v x positive inside = refl
 same-start tree sound Arrived p v x positive inside =
-    let apart = kid-apart tree sound (parent tree p) p (record { positive = positive; inside = inside; under = refl }) in
+    let apart = kid-apart tree sound (parent tree p) p (its-parent tree sound p positive inside) in
     rw (getD-set-other (x .virtuals) p (parent tree p) v 0 (λ e. apart (sym e)))
 
 module _ (tree : Tree) (sound : Sound tree) (why : Why) (p : ℕ) (inner : Inner tree p) (x : Rows) (full : Full x) where

@@ -17,10 +17,10 @@ use Rattle.rules.specs.declared.Why.the-variants.{Finished}
 use Rattle.laws.specs.Sound.{Sound, Kid, Inner, Sender}
 use Rattle.laws.specs.Moves.{Full, SameHead, Settled, SameKid, SameRow, Still, Headed, Dropped, Pick, Departing, passes-on, empties, DepartureAt}
 use Rattle.laws.specs.Kept.{HeadOf}
+use Rattle.laws.proofs.Heads.{same-row, then-same, still-rows}
 use Rattle.laws.proofs.Ways.{its-parent, climb, parent-is-inner, root-within, self-within, parent-within, child-within, one-child, along-length, along-at}
-use Rattle.laws.proofs.Choosing.{new-head-full, new-head-elsewhere, new-head-here}
 use Rattle.laws.proofs.Depths.{kid-deeper, way-higher, deeper-apart, upwards, off-apart, kid-off, sibling-off, sender-off, inner-below}
-use Rattle.laws.proofs.Rising.{same-row, then-same, still-rows}
+use Rattle.laws.proofs.Choosing.{new-head-full, new-head-elsewhere, new-head-here}
 use Rattle.laws.proofs.Rising.{Chosen, nobody, somebody, Risen, rises, root-tags, pick-before, taken-headed, front-headed}
 use Rattle.laws.proofs.Settling.{Move, rests, takes, Own, own-same, settles}
 

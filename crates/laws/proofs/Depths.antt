@@ -1,45 +1,24 @@
--- How deep the rows on a way are, a proof that goes up a way, and which rows are off it.
+-- How deep the rows are: proofs that go up a way or come up from the children, and which rows are off a way.
 -- Assumes nothing.
-use Prim.Native.Nat.{ℕ, zero, suc, _+_, _-_, _<_}
+use Prim.Native.Nat.{ℕ, zero, suc, _+_, _-_, _≤_, _<_}
 use mathlib.Core.Path.{_≡_, refl, sym, _∙_, ap, subst}
 use mathlib.Core.Logic.{_≢_, _⊎_, inl, inr, ⊎-elim}
-use mathlib.Core.Bool.{Bool, true, false, _||_, false≢true}
-use native.Mathlib.Decide.{ℕ-discrete}
+use mathlib.Core.Bool.{Bool, true, false, false≢true}
+use mathlib.Mathlib.Data.Bool.Basic.{eq-false-of-not-eq-true as refuted}
 use native.Mathlib.Omega.{arith}
-use borrow.Author.Tests.{eqb-true, ne-eqb}
-use lib.Dec.{eqb}
+use Rattle.rules.specs.Limits.{most-depth}
 use Rattle.rules.specs.Classes.{Tree, parent, depth, sends}
 use Rattle.rules.specs.Promise.{within}
 use Rattle.laws.specs.Sound.{Sound, Kid, Inner, Sender}
-use Rattle.laws.proofs.Ways.{its-parent, within-root, within-next, no-deeper, self-within, parent-within, child-within, one-child, sender-alone}
-
--- a test is false where its truth is absurd
-refuted : (b : Bool) → (b ≡ true → ⊥) → b ≡ false
-refuted true h = absurd (h refl)
-refuted false h = refl
-
--- either of two tests, and which
-or-second : (b c : Bool) → c ≡ true → (b || c) ≡ true
-or-second true c e = refl
-or-second false c e = e
-
-or-other : (b c : Bool) → (b || c) ≡ true → b ≡ false → c ≡ true
-or-other true c e none = absurd (false≢true (sym none))
-or-other false c e none = e
+use Rattle.laws.proofs.Ways.{sends-sender, its-parent, below-root, only-root, further, nearer, no-deeper, self-within, parent-within, child-within, one-child, sender-alone}
 
 module _ (tree : Tree) (sound : Sound tree) where
-  -- the way from a child is the child and its parent's way
-  within-kid : (p r j : ℕ) → Kid tree p r → within tree j r ≡ (eqb r j || within tree j p)
-  within-kid p r j kid =
-      subst (λ (q : ℕ). within tree j r ≡ (eqb r j || within tree j q)) (kid .under) (within-next tree sound j r (kid .positive) (kid .inside))
-
-  pub off-at-parent : (p r j : ℕ) → Kid tree p r → within tree j r ≡ false → within tree j p ≡ false
-  off-at-parent p r j kid off =
-      refuted (within tree j p) (λ on. false≢true (sym off ∙ within-kid p r j kid ∙ or-second (eqb r j) (within tree j p) on))
-
-  pub on-at-parent : (p r j : ℕ) → Kid tree p r → within tree j r ≡ true → j ≢ r → within tree j p ≡ true
-  on-at-parent p r j kid on other =
-      or-other (eqb r j) (within tree j p) (sym (within-kid p r j kid) ∙ on) (ne-eqb r j (λ e. other (sym e)))
+  pub sender-or-inner : (r : ℕ) → r < tree .rows → Sender tree r ⊎ Inner tree r
+  sender-or-inner r inside = go (sends tree r) refl
+    where
+      go : (b : Bool) → sends tree r ≡ b → Sender tree r ⊎ Inner tree r
+      go true is = inl (sends-sender tree r inside is)
+      go false is = inr (record { inside = inside; no-sender = is })
 
   -- ── depths ──
 
@@ -49,22 +28,18 @@ module _ (tree : Tree) (sound : Sound tree) where
 
   -- a row deeper than the root is its parent's child
   pub lower-kid : (d r : ℕ) → r < tree .rows → depth tree r ≡ suc d → Kid tree (parent tree r) r
-  lower-kid d zero inside deep = let top = sound .root-depth in absurd (omega arith)
-  lower-kid d (suc r) inside deep = its-parent tree sound (suc r) (omega arith) inside
+  lower-kid d r inside deep = its-parent tree sound r (below-root tree sound r d deep) inside
 
   -- a row on the way from r is r, or less deep
   pub way-depth : (r j : ℕ) → r < tree .rows → within tree j r ≡ true → (j ≡ r) ⊎ (depth tree j < depth tree r)
-  way-depth zero j inside on = inl (sym (eqb-true 0 j (sym (within-root tree sound j) ∙ on)))
-  way-depth (suc r) j inside on = go (ℕ-discrete j (suc r))
+  way-depth zero j inside on = inl (only-root tree sound j on)
+  way-depth (suc r) j inside on = ⊎-elim (λ here. inl (sym here)) (λ above. inr (higher above)) (nearer tree sound j (suc r) (omega arith) inside on)
     where
-      go : Dec (j ≡ suc r) → (j ≡ suc r) ⊎ (depth tree j < depth tree (suc r))
-      go (yes e) = inl e
-      go (no other) =
-          let kid = its-parent tree sound (suc r) (omega arith) inside in
+      higher : within tree j (parent tree (suc r)) ≡ true → depth tree j < depth tree (suc r)
+      higher above =
           let deeper = sound .deeper (suc r) (omega arith) inside in
-          let above = on-at-parent (parent tree (suc r)) (suc r) j kid on other in
           let high = no-deeper tree sound j (parent tree (suc r)) (sound .parent-row (suc r) (omega arith) inside) above in
-          inr (omega arith)
+          omega arith
 
   -- a parent of a row on the way from r is less deep than r
   pub way-higher : (r p c : ℕ) → r < tree .rows → Kid tree p c → within tree c r ≡ true → depth tree p < depth tree r
@@ -94,21 +69,38 @@ module _ (tree : Tree) (sound : Sound tree) where
         let high = no-deeper tree sound r k inside-k on in
         upwards-from (depth tree k - depth tree r) r inside on (omega arith)
 
-  -- ── rows off the way ──
+  -- ── up from the children ──
+
+  -- a proof may take for granted that a row's children have been seen to
+  pub from-children :
+      (P : ℕ → Type 0) → ((r : ℕ) → r < tree .rows → ((j : ℕ) → Kid tree r j → P j) → P r)
+      → (r : ℕ) → r < tree .rows → P r
+  from-children P next r inside = go most-depth r inside (omega arith)
+    where
+      go : (d r : ℕ) → r < tree .rows → most-depth ≤ depth tree r + d → P r
+      go zero r inside reach =
+          next r inside (λ j kid. let deeper = kid-deeper r j kid in let shallow = sound .shallow j (kid .inside) in absurd (omega arith))
+      go (suc d) r inside reach = next r inside (λ j kid. go d j (kid .inside) (let deeper = kid-deeper r j kid in omega arith))
+
+  -- ── rows off a way ──
+
+  pub off-at-parent : (p r j : ℕ) → Kid tree p r → within tree j r ≡ false → within tree j p ≡ false
+  off-at-parent p r j kid off =
+      refuted (λ on. false≢true (sym off ∙ further tree sound j r (kid .positive) (kid .inside) (rw (kid .under) on)))
 
   pub off-apart : (k j : ℕ) → within tree j k ≡ false → j ≢ k
   off-apart k j off e = false≢true (sym off ∙ ap (λ (i : ℕ). within tree i k) e ∙ self-within tree sound k)
 
   module _ (k : ℕ) (inside : k < tree .rows) where
     pub kid-off : (p j : ℕ) → Kid tree p j → within tree p k ≡ false → within tree j k ≡ false
-    kid-off p j kid off = refuted (within tree j k) (λ on. false≢true (sym off ∙ parent-within tree sound p j k inside kid on))
+    kid-off p j kid off = refuted (λ on. false≢true (sym off ∙ parent-within tree sound p j k inside kid on))
 
     pub sibling-off : (p c j : ℕ) → Kid tree p c → within tree c k ≡ true → Kid tree p j → j ≢ c → within tree j k ≡ false
     sibling-off p c j kid on kid-j apart =
-        refuted (within tree j k) (λ on-j. apart (one-child tree sound p j c k inside kid-j kid on-j on))
+        refuted (λ on-j. apart (one-child tree sound p j c k inside kid-j kid on-j on))
 
     pub sender-off : (j : ℕ) → Sender tree j → j ≢ k → within tree j k ≡ false
-    sender-off j sender apart = refuted (within tree j k) (λ on. apart (sym (sender-alone tree sound j k sender inside on)))
+    sender-off j sender apart = refuted (λ on. apart (sym (sender-alone tree sound j k sender inside on)))
 
   -- an inner row on the way from a sending class has a child on it
   pub inner-below :

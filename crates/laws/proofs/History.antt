@@ -1,26 +1,27 @@
 -- Conservation: what the box counts is what can be counted from the events and the order, and the order is first in, first out.
 -- Assumes nothing.
-use Prim.Native.Nat.{ℕ, zero, suc, _+_, _≤_, _<_}
+use Prim.Native.Nat.{ℕ, suc, _+_, _≤_, _<_}
 use mathlib.Core.Path.{_≡_, refl, sym, _∙_, subst}
 use mathlib.Core.Logic.{_≢_}
 use mathlib.Core.Bool.{true, false, cond}
 use mathlib.Core.List.{List, [], _∷_, _++_, append-nil, append-assoc}
-use native.Mathlib.Decide.{decLe}
+use native.Mathlib.Decide.{le-ind}
 use native.Mathlib.Omega.{arith}
 use lib.ListN.{length, getD, take, length-append}
 use lib.Seq.{take-append-seam, take-append-le, take-at}
 use Rattle.rules.specs.declared.Event.{Event}
 use Rattle.rules.specs.declared.Event.the-variants.{Arrival, Finish}
-use Rattle.rules.specs.Classes.{Tree, row-of}
-use Rattle.rules.specs.Events.{Events, class-word, event}
+use Rattle.rules.specs.Classes.{Tree}
+use Rattle.rules.specs.Events.{Events, event}
 use Rattle.rules.specs.Box.{Box, has-head, bytes-of, held-by}
 use Rattle.rules.specs.Steps.{arrival, departure, step, after}
 use Rattle.rules.specs.Promise.{for-part, finish-count, arrived, packets-for, bytes-for, finished, holds}
 use Rattle.laws.specs.Sound.{Sender}
 use Rattle.laws.specs.History.{Accepted, arrivals-of, only-for}
 use Rattle.laws.proofs.Ways.{self-within}
+use Rattle.laws.proofs.Turns.{class-at, fewer}
 use Rattle.laws.proofs.Orders.{All, all-middle, twice, only-twice, arrivals-ascend, Ascending}
-use Rattle.laws.proofs.Counting.{on-line, line-length, ForSender, sooner, counted, order-sent, order-first, arrived-all, idle-none, busy-some}
+use Rattle.laws.proofs.Counting.{on-line, on-line-length, ForSender, counted, order-sent, order-first, arrived-all, idle-line-holds-none, busy-line-holds}
 
 -- one event more, whichever it is
 step-order : (tree : Tree) (n : ℕ) (e : Event) (box : Box) → (more : List ℕ) × (step tree n e box .order ≡ box .order ++ more)
@@ -32,10 +33,6 @@ module _ (tree : Tree) (events : Events) where
   Grown : ℕ → ℕ → Type 0
   Grown n m = (rest : List ℕ) × (after tree events m .order ≡ after tree events n .order ++ rest)
 
-  same-grown : (n m : ℕ) → n ≡ m → Grown n m
-  unfolding Grown
-  same-grown n m same = ([], rw (same, append-nil))
-
   next-grown : (n m : ℕ) → Grown n m → Grown n (suc m)
   unfolding Grown after
   next-grown n m (rest, so-far) =
@@ -43,12 +40,8 @@ module _ (tree : Tree) (events : Events) where
       (rest ++ more .0, rw (more .1, so-far, append-assoc))
 
   grown : (n m : ℕ) → n ≤ m → Grown n m
-  grown n zero earlier = same-grown n 0 (omega arith)
-  grown n (suc m) earlier = go (decLe n m) (grown n m)
-    where
-      go : Dec (n ≤ m) → (n ≤ m → Grown n m) → Grown n (suc m)
-      go (yes before) so-far = next-grown n m (so-far before)
-      go (no last) so-far = same-grown n (suc m) (omega arith)
+  unfolding Grown
+  grown n m earlier = le-ind (Grown n) ([], rw append-nil) (λ i from so-far. next-grown n i so-far) m earlier
 
   -- the order only grows, and holds as many packets as were finished, and one more while the line is busy
   pub order-grows : (n m : ℕ) → n ≤ m → Accepted tree events m → take (length (after tree events n .order)) (after tree events m .order) ≡ after tree events n .order
@@ -58,22 +51,22 @@ module _ (tree : Tree) (events : Events) where
   pub order-length : (n : ℕ) → Accepted tree events n → length (after tree events n .order) ≡ finish-count events n + cond (has-head (after tree events n .rows) 0) 1 0
   order-length n ok =
       let run = counted tree events n ok in
-      rw (run .1 .order-parts, length-append, run .1 .done-length, line-length)
+      rw (run .1 .order-parts, length-append, run .1 .done-length, on-line-length)
 
   -- the same finished packets at any later moment
   pub finished-same : (n m : ℕ) → n ≤ m → Accepted tree events m → finished events (after tree events m .order) n ≡ finished events (after tree events n .order) n
   unfolding Grown finished
   finished-same n m earlier ok =
       let more = grown n m earlier in
-      let long : finish-count events n ≤ length (after tree events n .order) = omega (arith, order-length n (sooner tree events n m earlier ok)) in
+      let long : finish-count events n ≤ length (after tree events n .order) = omega (arith, order-length n (fewer tree events n m earlier ok)) in
       rw (more .1) (take-append-le (finish-count events n) (after tree events n .order) (more .0) long)
 
   finished-done :
       (n m : ℕ) (earlier : n ≤ m) (ok : Accepted tree events m)
-      → finished events (after tree events m .order) n ≡ counted tree events n (sooner tree events n m earlier ok) .0
+      → finished events (after tree events m .order) n ≡ counted tree events n (fewer tree events n m earlier ok) .0
   unfolding finished
   finished-done n m earlier ok =
-      let run = counted tree events n (sooner tree events n m earlier ok) in
+      let run = counted tree events n (fewer tree events n m earlier ok) in
       finished-same n m earlier ok
       ∙ rw (run .1 .order-parts) (take-at (run .0) (on-line (after tree events n .rows)) (finish-count events n) (run .1 .done-length))
 
@@ -82,13 +75,13 @@ module _ (tree : Tree) (events : Events) where
       (n m r : ℕ) → n ≤ m → Accepted tree events m → r < tree .rows
       → bytes-of (after tree events n) r ≡ bytes-for tree events r (finished events (after tree events m .order) n)
   bytes-counted n m r earlier ok inside =
-      rw (finished-done n m earlier ok) (counted tree events n (sooner tree events n m earlier ok) .1 .bytes-agree r inside)
+      rw (finished-done n m earlier ok) (counted tree events n (fewer tree events n m earlier ok) .1 .bytes-agree r inside)
 
   pub held-counted :
       (n m r : ℕ) → n ≤ m → Accepted tree events m → r < tree .rows
       → arrived tree events r n ≡ packets-for tree events r (finished events (after tree events m .order) n) + held-by (after tree events n) r
   held-counted n m r earlier ok inside =
-      rw (finished-done n m earlier ok) (counted tree events n (sooner tree events n m earlier ok) .1 .held-agree r inside)
+      rw (finished-done n m earlier ok) (counted tree events n (fewer tree events n m earlier ok) .1 .held-agree r inside)
 
   pub holds-held :
       (n m r : ℕ) → n ≤ m → Accepted tree events m → r < tree .rows
@@ -112,7 +105,7 @@ module _ (tree : Tree) (events : Events) where
   once n i j ok before inside same =
       let order = after tree events n .order in
       let x = getD order i 0 in
-      let k = row-of tree (class-word events x) in
+      let k = class-at tree events x in
       let (front, middle, back, parts) = twice order i j before inside same in
       let all = subst (λ xs. All (ForSender tree events) xs) parts (order-sent tree events n ok) in
       let sends = all-middle (ForSender tree events) front x (middle ++ x ∷ back) all in
@@ -123,7 +116,7 @@ module _ (tree : Tree) (events : Events) where
 
   -- the line is idle exactly where every packet that arrived is finished
   pub idle-counted : (n : ℕ) → Accepted tree events n → has-head (after tree events n .rows) 0 ≡ false → arrived tree events 0 n ≡ finish-count events n
-  idle-counted n ok idle = omega (arith, arrived-all tree events n ok, idle-none tree events n ok idle)
+  idle-counted n ok idle = omega (arith, arrived-all tree events n ok, idle-line-holds-none tree events n ok idle)
 
   pub busy-counted : (n : ℕ) → Accepted tree events n → has-head (after tree events n .rows) 0 ≡ true → finish-count events n < arrived tree events 0 n
-  busy-counted n ok busy = omega (arith, arrived-all tree events n ok, busy-some tree events n ok busy)
+  busy-counted n ok busy = omega (arith, arrived-all tree events n ok, busy-line-holds tree events n ok busy)

@@ -3,7 +3,7 @@
 use Prim.Native.Nat.{ℕ, zero, suc, _+_, _≤_, _<_}
 use mathlib.Core.Path.{_≡_, refl, sym, ap, _∙_}
 use mathlib.Core.Logic.{_≢_}
-use mathlib.Core.Bool.{Bool, true, false, cond, true≢false}
+use mathlib.Core.Bool.{Bool, true, false, cond}
 use native.Mathlib.Decide.{ℕ-discrete}
 use native.Mathlib.Omega.{arith}
 use Rattle.rules.specs.Classes.{Tree, child}
@@ -12,9 +12,9 @@ use Rattle.rules.specs.Promise.{within}
 use Rattle.laws.specs.Sound.{Sound, Kid, Inner, Sender}
 use Rattle.laws.specs.Level.{sum}
 use Rattle.laws.specs.Kept.{held-below}
-use Rattle.laws.proofs.Ways.{kid-child, child-kid, self-within, parent-within, child-within, one-child, sender-alone}
+use Rattle.laws.proofs.Ways.{kid-child, child-kid, self-within}
+use Rattle.laws.proofs.Depths.{kid-off, sibling-off, sender-off, inner-below}
 use Rattle.laws.proofs.Balance.{sum-same}
-use Rattle.laws.proofs.Descent.{sender-not-inner}
 
 -- ── sums ──
 
@@ -61,10 +61,6 @@ sum-more (suc n) f g c inside others more = go (ℕ-discrete c n) (sum-more n f 
 abbrev pub OneMore : Tree → ℕ → Box → Box → Type 0
 OneMore tree k less more = (r : ℕ) → r < tree .rows → held-by more r ≡ cond (within tree r k) (suc (held-by less r)) (held-by less r)
 
-unless : (b : Bool) → (b ≡ true → ⊥) → b ≡ false
-unless true not = absurd (not refl)
-unless false not = refl
-
 module _ (tree : Tree) (sound : Sound tree) (k : ℕ) (sender : Sender tree k) (less more : Box) (one-more : OneMore tree k less more) where
   -- the rows off the way to k hold as many
   more-off : (r : ℕ) → r < tree .rows → within tree r k ≡ false → held-by more r ≡ held-by less r
@@ -77,8 +73,7 @@ module _ (tree : Tree) (sound : Sound tree) (k : ℕ) (sender : Sender tree k) (
   more-own = more-on k (sender .inside) (self-within tree sound k)
 
   pub more-other : (j : ℕ) → Sender tree j → j ≢ k → held-by more j ≡ held-by less j
-  more-other j other apart =
-      more-off j (other .inside) (unless (within tree j k) (λ on. apart (sym (sender-alone tree sound j k other (sender .inside) on))))
+  more-other j other apart = more-off j (other .inside) (sender-off tree sound k (sender .inside) j other apart)
 
   off-way :
       (p j : ℕ) → j < tree .rows → (Kid tree p j → within tree j k ≡ false)
@@ -100,18 +95,18 @@ module _ (tree : Tree) (sound : Sound tree) (k : ℕ) (sender : Sender tree k) (
       through : (c : ℕ) → Kid tree p c → within tree c k ≡ true → sum (tree .rows) (all more) ≡ suc (sum (tree .rows) (all less))
       through c kid on =
           sum-more (tree .rows) (all more) (all less) c (kid .inside)
-          (λ j inside apart. off-way p j inside (λ other. unless (within tree j k) (λ way. apart (one-child tree sound p j c k (sender .inside) other kid way on))))
+          (λ j inside apart. off-way p j inside (λ other. sibling-off tree sound k (sender .inside) p c j kid on other apart))
           (rw (kid-child tree p c kid) (more-on c (kid .inside) on))
 
       go :
           (b : Bool) → within tree p k ≡ b
           → sum (tree .rows) (all more) ≡ cond b (suc (sum (tree .rows) (all less))) (sum (tree .rows) (all less))
       go true on =
-          let (c, kid, way) = child-within tree sound p k (sender .inside) on (sender-not-inner tree sound k p sender inner) in
+          let (c, kid, way) = inner-below tree sound k p sender inner on in
           through c kid way
       go false off =
           sum-same (tree .rows) (all more) (all less)
-          (λ j inside. off-way p j inside (λ kid. unless (within tree j k) (λ way. true≢false (sym (parent-within tree sound p j k (sender .inside) kid way) ∙ off))))
+          (λ j inside. off-way p j inside (λ kid. kid-off tree sound k (sender .inside) p j kid off))
 
   pub more-below : (p : ℕ) → Inner tree p → held-by less p ≡ held-below tree less p → held-by more p ≡ held-below tree more p
   more-below p inner before =

@@ -17,8 +17,8 @@ use Rattle.laws.specs.Sound.{Sound}
 use Rattle.laws.specs.Kept.{Kept}
 use Rattle.laws.specs.History.{Accepted}
 use Rattle.laws.proofs.Ways.{climb, its-parent}
-use Rattle.laws.proofs.Keeping.{idle-holds-none, kept}
 use Rattle.laws.proofs.Largest.{accepted-wider}
+use Rattle.laws.proofs.Keeping.{holds-head, kept}
 use Rattle.laws.proofs.History.{idle-counted, busy-counted}
 
 -- a row that holds a packet has ancestors with a head, the root among them
@@ -26,8 +26,7 @@ pub line-busy :
     (tree : Tree) → Sound tree → (big : ℕ → ℕ) → ((j : ℕ) → 0 < j → j < tree .rows → big j ≤ big (parent tree j))
     → (now : ℕ) (box : Box) → Kept tree big now box → (r : ℕ) → r < tree .rows → 0 < held-by box r → head (box .rows) 0 ≢ 0
 line-busy tree sound big wider now box well r inside some idles =
-    let none = idle-holds-none tree sound big wider now box well r inside (climb tree sound (λ x. head (box .rows) x ≡ 0) idles down r inside) in
-    omega arith
+    holds-head tree sound big wider now box well r inside some (climb tree sound (λ x. head (box .rows) x ≡ 0) idles down r inside)
   where
     down : (x : ℕ) → 0 < x → x < tree .rows → head (box .rows) (parent tree x) ≡ 0 → head (box .rows) x ≡ 0
     down x positive below above = well .settled .idle-below (parent tree x) above x (its-parent tree sound x positive below)

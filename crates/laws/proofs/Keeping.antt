@@ -3,43 +3,37 @@
 use Prim.Native.Nat.{ℕ, zero, suc, pred, _≤_, _<_}
 use mathlib.Core.Path.{_≡_, refl, sym, ap, subst, _∙_}
 use mathlib.Core.Logic.{_≢_, ⊎-elim}
-use mathlib.Core.Bool.{Bool, true, false, cond, _||_}
-use mathlib.Core.List.{List, [], _∷_, _++_, tail}
+use mathlib.Core.Bool.{Bool, true, false, cond}
+use mathlib.Core.List.{List, [], _∷_, _++_}
 use native.Mathlib.Decide.{ℕ-discrete}
 use native.Mathlib.Omega.{arith}
-use lib.Dec.{eqb}
 use lib.ListN.{length, length-set, length-append}
-use borrow.Author.Tests.{eqb-true, eqb-false, not-true}
 use Rattle.rules.specs.declared.Event.{Event}
 use Rattle.rules.specs.declared.Event.the-variants.{Arrival, Finish}
-use Rattle.rules.specs.Classes.{Tree, parent, depth, child, row-of}
-use Rattle.rules.specs.Events.{Events}
-use Rattle.rules.specs.Box.{Packet, Box, Rows, head, head-length, head-class, has-head, held-by, queue-of}
+use Rattle.rules.specs.Classes.{Tree, parent, child, row-of}
+use Rattle.rules.specs.Events.{Events, class-word, length-word}
+use Rattle.rules.specs.Box.{Packet, Box, Rows, head, head-length, head-class, held-by, queue-of}
 use Rattle.rules.specs.Steps.{arrives, arrival, departure, step, after}
 use Rattle.rules.specs.Refusals.{meeting-refused}
-use Rattle.rules.specs.Promise.{on-way, within}
-use Rattle.laws.specs.Sound.{Sound, Kid, Inner, Sender}
+use Rattle.rules.specs.Promise.{within, for-part}
+use Rattle.laws.specs.Sound.{Sound, Kid, Inner, Sender, ArrivalFits}
 use Rattle.laws.specs.Moves.{SameHead, Settled}
 use Rattle.laws.specs.Kept.{Kept, InLine, HeadOf, held-below, Covered}
 use Rattle.laws.specs.History.{Accepted, largest-for}
+use Rattle.laws.proofs.Tests.{cond-least}
+use Rattle.laws.proofs.Heads.{has-true}
 use Rattle.laws.proofs.Ways.{kid-child, child-kid, self-within, sender-alone, along-length, along-at}
-use Rattle.laws.proofs.Paths.{NextFits, arrives-full, arrives-settled, arrives-at, arrives-behind, arrives-first, arrives-others, arrives-quiet}
-use Rattle.laws.proofs.Paths.{path-heads, departs-full, departs-settled, departs-on, departs-off, departs-class, departs-others, departs-quiet}
+use Rattle.laws.proofs.Depths.{sender-or-inner, from-children, upwards}
 use Rattle.laws.proofs.Trees.{arrival-fits, finish-fits}
-use Rattle.laws.proofs.Turns.{fewer, turn}
 use Rattle.laws.proofs.Levels.{Even, still-even, arrival-even, departure-even}
-use Rattle.laws.proofs.Descent.{sender-or-inner, from-children}
-use Rattle.laws.proofs.Queues.{in-line-wider, in-line-joined, in-line-tail, in-line-next, length-tail, head-in-line, idle-empty, busy-some, OneQueue, lines-after, heads-after, counts-after}
-pub use Rattle.laws.proofs.Outset.{fresh-kept}
+use Rattle.laws.proofs.ArrivalPath.{arrives-full, arrives-settled, arrives-behind, arrives-first, arrives-others, arrives-quiet}
+use Rattle.laws.proofs.DeparturePath.{NextFits, path-heads, departs-full, departs-settled, departs-class, departs-others, departs-quiet}
+use Rattle.laws.proofs.Turns.{class-at, turn}
 use Rattle.laws.proofs.Largest.{largest-covers, accepted-wider}
+pub use Rattle.laws.proofs.Outset.{fresh-kept}
+use Rattle.laws.proofs.Queues.{in-line-wider, in-line-joined, length-tail, head-in-line, idle-empty, busy-some, OneQueue, lines-after, heads-after, counts-after}
 use Rattle.laws.proofs.Holding.{sum-none, sum-term, OneMore, more-own, more-other, more-below, less-below}
-
--- the class of the packet on the line, and what that class holds behind it
-abbrev line-class : Box → ℕ
-line-class box = head-class (box .rows) 0
-
-abbrev left : Box → List Packet
-left box = tail (queue-of box (line-class box))
+use Rattle.laws.proofs.OneEvent.{line-class, left, even, arrival-at, arrival-held, line-sender, left-line, left-next, departure-on, departure-off}
 
 -- ── heads ──
 
@@ -69,30 +63,11 @@ class-head tree sound a settled r inside has = from-children tree sound (λ r. h
             })
 
 module _ (tree : Tree) (sound : Sound tree) (big : ℕ → ℕ) (wider : (j : ℕ) → 0 < j → j < tree .rows → big j ≤ big (parent tree j)) where
-  climb : (r d x : ℕ) → x < tree .rows → depth tree x ≡ d → on-way d tree x r ≡ true → big x ≤ big r
-  unfolding on-way
-  climb r zero x inside at on = let same = ap big (eqb-true x r on) in omega arith
-  climb r (suc d) x inside at on = go (eqb x r) refl on (climb r d (parent tree x))
+  wider-within : (r x : ℕ) → r < tree .rows → x < tree .rows → within tree r x ≡ true → big x ≤ big r
+  wider-within r x r-inside inside on = upwards tree sound x inside (λ r. big x ≤ big r) (omega arith) up r r-inside on
     where
-      positive : Dec (x ≡ 0) → 0 < x
-      positive (yes root) = let top = ap (depth tree) root ∙ sound .root-depth in absurd (omega arith)
-      positive (no other) = omega arith
-
-      go :
-          (b : Bool) → eqb x r ≡ b → (b || on-way d tree (parent tree x) r) ≡ true
-          → (parent tree x < tree .rows → depth tree (parent tree x) ≡ d → on-way d tree (parent tree x) r ≡ true → big (parent tree x) ≤ big r)
-          → big x ≤ big r
-      go true is on above = let same = ap big (eqb-true x r is) in omega arith
-      go false is on above =
-          let below = positive (ℕ-discrete x 0) in
-          let deeper = sound .deeper x below inside in
-          let here = wider x below inside in
-          let rest = above (sound .parent-row x below inside) (omega arith) on in
-          omega arith
-
-  pub wider-within : (r x : ℕ) → x < tree .rows → within tree r x ≡ true → big x ≤ big r
-  unfolding within
-  wider-within r x inside on = climb r (depth tree x) x inside refl on
+      up : (p c : ℕ) → Kid tree p c → within tree c x ≡ true → big x ≤ big c → big x ≤ big p
+      up p c kid on below = let above : big c ≤ big p = rw (kid .under) at (wider c (kid .positive) (kid .inside)) in omega arith
 
   -- a head is no longer than the largest in its part, as it stands first in a queue there
   small-heads :
@@ -111,7 +86,7 @@ module _ (tree : Tree) (sound : Sound tree) (big : ℕ → ℕ) (wider : (j : �
           let within-class =
           head-in-line (box .rows) class now (big class) 0 (queue-of box class) (λ none. has (sym (same .packet-same) ∙ none))
           (heads class sender) (lines class sender) in
-          let of-row = wider-within r class (sender .inside) (settled .of-part r inside has) in
+          let of-row = wider-within r class inside (sender .inside) (settled .of-part r inside has) in
           omega arith
 
   module _ (now : ℕ) (box : Box) (kept : Kept tree big now box) where
@@ -161,16 +136,20 @@ module _ (tree : Tree) (sound : Sound tree) (big : ℕ → ℕ) (wider : (j : �
                 let all = kept .held-inner r inner in
                 omega arith
 
-    even : (p : ℕ) → Inner tree p → Even tree big (box .rows) p
-    even p inner t taken = kept .levels p t inner taken
+    -- and the other way round
+    pub holds-head : (r : ℕ) → r < tree .rows → 0 < held-by box r → head (box .rows) r ≢ 0
+    holds-head r inside holds none = let empty = idle-holds-none r inside none in omega arith
+
+    pub holds-none : (r : ℕ) → r < tree .rows → held-by box r ≡ 0 → head (box .rows) r ≡ 0
+    holds-none r inside empty = go (ℕ-discrete (head (box .rows) r) 0)
+      where
+        go : Dec (head (box .rows) r ≡ 0) → head (box .rows) r ≡ 0
+        go (yes none) = none
+        go (no has) = let holds = busy-holds r inside has in absurd (omega arith)
 
     -- ── an arrival ──
 
     module _ (k length : ℕ) (sender : Sender tree k) (some : 0 < length) (small : length ≤ big k) where
-      arrival-held : OneMore tree k box (arrival tree now k length box)
-      unfolding arrival
-      arrival-held r inside = along-at tree sound (λ r n. suc n) k r (box .held) (sender .inside) inside (kept .held-full)
-
       arrival-queue : OneQueue tree big now box k (queue-of box k ++ record { place = now; length = length } ∷ []) (arrival tree now k length box)
       unfolding arrival HeadOf
       arrival-queue =
@@ -182,7 +161,7 @@ module _ (tree : Tree) (sound : Sound tree) (big : ℕ → ℕ) (wider : (j : �
                 λ j other apart. arrives-others tree sound (box .rows) (kept .rows-full) (kept .settled) now k length sender some j other apart
                 .head-same;
             held = counts (queue-of box k) (kept .held-sender k sender);
-            held-others = more-other tree sound k sender box (arrival tree now k length box) arrival-held;
+            held-others = more-other tree sound k sender box (arrival tree now k length box) (arrival-held tree sound big now box kept k length sender);
           }
         where
           first :
@@ -197,7 +176,7 @@ module _ (tree : Tree) (sound : Sound tree) (big : ℕ → ℕ) (wider : (j : �
               (queue : List Packet) → held-by box k ≡ lib.ListN.length queue
               → held-by (arrival tree now k length box) k ≡ lib.ListN.length (queue ++ record { place = now; length = length } ∷ [])
           counts queue before =
-              let own = more-own tree sound k sender box (arrival tree now k length box) arrival-held in
+              let own = more-own tree sound k sender box (arrival tree now k length box) (arrival-held tree sound big now box kept k length sender) in
               let longer = length-append queue (record { place = now; length = length } ∷ []) in
               omega arith
 
@@ -212,12 +191,13 @@ module _ (tree : Tree) (sound : Sound tree) (big : ℕ → ℕ) (wider : (j : �
           (heads-after tree sound big now box kept k sender _ (arrival tree now k length box) arrival-queue)
 
       arrival-levels : (p : ℕ) → Inner tree p → Even tree big (arrival tree now k length box .rows) p
-      unfolding arrival
       arrival-levels p inner =
           ⊎-elim
-          (λ still. still-even tree sound big wider (box .rows) (arrival tree now k length box .rows) (kept .settled) arrival-settled arrival-small p inner still (even p inner))
-          (λ (c, move). arrival-even tree sound big wider (box .rows) (arrival tree now k length box .rows) (kept .settled) arrival-settled arrival-small p inner k c move (even p inner))
-          (arrives-at tree sound (box .rows) (kept .rows-full) (kept .settled) now k length sender some p inner)
+          (λ still. still-even tree sound big wider (box .rows) (arrival tree now k length box .rows) (kept .settled) arrival-settled arrival-small p inner
+          still (even tree sound big now box kept p inner))
+          (λ (c, move). arrival-even tree sound big wider (box .rows) (arrival tree now k length box .rows) (kept .settled) arrival-settled arrival-small p inner
+          k c move (even tree sound big now box kept p inner))
+          (arrival-at tree sound big now box kept k length sender some p inner)
 
     pub arrival-kept : (k length : ℕ) → Sender tree k → 0 < length → length ≤ big k → Kept tree big (suc now) (arrival tree now k length box)
     unfolding arrival
@@ -237,7 +217,7 @@ module _ (tree : Tree) (sound : Sound tree) (big : ℕ → ℕ) (wider : (j : �
           heads-kept = heads-after tree sound big now box kept k sender _ (arrival tree now k length box) one;
           held-sender = counts-after tree sound big now box kept k sender _ (arrival tree now k length box) one;
           held-inner =
-              λ p inner. more-below tree sound k sender box (arrival tree now k length box) (arrival-held k length sender some small) p inner
+              λ p inner. more-below tree sound k sender box (arrival tree now k length box) (arrival-held tree sound big now box kept k length sender) p inner
               (kept .held-inner p inner);
           levels = λ p t inner. arrival-levels k length sender some small p inner t;
           sender-virtual = λ j other. quiet .0 j other ∙ kept .sender-virtual j other;
@@ -248,21 +228,18 @@ module _ (tree : Tree) (sound : Sound tree) (big : ℕ → ℕ) (wider : (j : �
     -- ── a finish ──
 
     module _ (busy : head (box .rows) 0 ≢ 0) where
-      line-sender : Sender tree (line-class box)
-      line-sender = kept .settled .of-sender 0 (sound .some-rows) busy
+      class : Sender tree (line-class box)
+      class = line-sender tree sound big now box kept busy
 
-      left-line : InLine now (big (line-class box)) 0 (left box)
-      left-line = in-line-tail now (big (line-class box)) 0 (queue-of box (line-class box)) (kept .queues-kept (line-class box) line-sender)
-
-      left-next : NextFits (left box)
-      left-next = in-line-next now (big (line-class box)) 0 (left box) left-line
+      next : NextFits (left box)
+      next = left-next tree sound big now box kept busy
 
       -- every row on the line's way holds a packet, so that one less is exact
-      departure-held : OneMore tree (line-class box) (departure tree box) box
+      pub departure-held : OneMore tree (line-class box) (departure tree box) box
       unfolding departure
       departure-held r inside =
           go (within tree r (line-class box)) refl
-          (along-at tree sound (λ r n. pred n) (line-class box) r (box .held) (line-sender .inside) inside (kept .held-full))
+          (along-at tree sound (λ r n. pred n) (line-class box) r (box .held) (class .inside) inside (kept .held-full))
         where
           go :
               (b : Bool) → within tree r (line-class box) ≡ b
@@ -275,58 +252,61 @@ module _ (tree : Tree) (sound : Sound tree) (big : ℕ → ℕ) (wider : (j : �
               omega arith
           go false off after = sym after
 
+      pub departure-fewer : (r : ℕ) → r < tree .rows → held-by (departure tree box) r ≤ held-by box r
+      departure-fewer r inside =
+          rw (departure-held r inside) (cond-least (within tree r (line-class box)) _ _ _ (omega arith) (omega arith))
+
       departure-queue : OneQueue tree big now box (line-class box) (left box) (departure tree box)
       unfolding departure
       departure-queue =
           record {
             queues = refl;
-            line = in-line-wider now (suc now) (big (line-class box)) 0 0 (left box) (omega arith) (omega arith) left-line;
-            first = departs-class tree sound (box .rows) (kept .rows-full) (kept .settled) busy (left box) left-next;
+            line = in-line-wider now (suc now) (big (line-class box)) 0 0 (left box) (omega arith) (omega arith) (left-line tree sound big now box kept busy);
+            first = departs-class tree sound (box .rows) (kept .rows-full) (kept .settled) busy (left box) next;
             others =
-                λ j other apart. departs-others tree sound (box .rows) (kept .rows-full) (kept .settled) busy (left box) left-next j other apart
+                λ j other apart. departs-others tree sound (box .rows) (kept .rows-full) (kept .settled) busy (left box) next j other apart
                 .head-same;
             held = counts;
             held-others =
-                λ j other apart. sym (more-other tree sound (line-class box) line-sender (departure tree box) box departure-held j other apart);
+                λ j other apart. sym (more-other tree sound (line-class box) class (departure tree box) box departure-held j other apart);
           }
         where
           counts : held-by (departure tree box) (line-class box) ≡ length (left box)
           counts =
-              let own = more-own tree sound (line-class box) line-sender (departure tree box) box departure-held in
-              let before = kept .held-sender (line-class box) line-sender in
+              let own = more-own tree sound (line-class box) class (departure tree box) box departure-held in
+              let before = kept .held-sender (line-class box) class in
               let shorter = length-tail (queue-of box (line-class box)) in
               omega arith
 
       departure-settled : Settled tree (departure tree box .rows)
       unfolding departure
-      departure-settled = departs-settled tree sound (box .rows) (kept .rows-full) (kept .settled) busy (left box) left-next
+      departure-settled = departs-settled tree sound (box .rows) (kept .rows-full) (kept .settled) busy (left box) next
 
       departure-small : (r : ℕ) → r < tree .rows → head-length (departure tree box .rows) r ≤ big r
       departure-small =
           small-heads (suc now) (departure tree box) departure-settled
-          (lines-after tree sound big now box kept (line-class box) line-sender (left box) (departure tree box) departure-queue)
-          (heads-after tree sound big now box kept (line-class box) line-sender (left box) (departure tree box) departure-queue)
+          (lines-after tree sound big now box kept (line-class box) class (left box) (departure tree box) departure-queue)
+          (heads-after tree sound big now box kept (line-class box) class (left box) (departure tree box) departure-queue)
 
       departure-levels : (p : ℕ) → Inner tree p → Even tree big (departure tree box .rows) p
-      unfolding departure
       departure-levels p inner = go (within tree p (line-class box)) refl
         where
           go : (b : Bool) → within tree p (line-class box) ≡ b → Even tree big (departure tree box .rows) p
           go true on =
-              let (c, move) = departs-on tree sound (box .rows) (kept .rows-full) (kept .settled) busy (left box) left-next p inner on in
+              let (c, move) = departure-on tree sound big now box kept busy p inner on in
               departure-even tree sound big wider (box .rows) (departure tree box .rows) (kept .settled) departure-settled departure-small p inner
-              (line-class box) c move (even p inner)
+              (line-class box) c move (even tree sound big now box kept p inner)
           go false off =
               still-even tree sound big wider (box .rows) (departure tree box .rows) (kept .settled) departure-settled departure-small p inner
-              (departs-off tree sound (box .rows) (kept .rows-full) (kept .settled) busy (left box) left-next p inner off) (even p inner)
+              (departure-off tree sound big now box kept busy p inner off) (even tree sound big now box kept p inner)
 
     pub departure-kept : head (box .rows) 0 ≢ 0 → Kept tree big (suc now) (departure tree box)
     unfolding departure
     departure-kept busy =
-        let quiet = departs-quiet tree sound (box .rows) (kept .rows-full) (kept .settled) busy (left box) (left-next busy) in
+        let quiet = departs-quiet tree sound (box .rows) (kept .rows-full) (kept .settled) busy (left box) (next busy) in
         let one = departure-queue busy in
         record {
-          rows-full = departs-full tree sound (box .rows) (kept .rows-full) (kept .settled) busy (left box) (left-next busy);
+          rows-full = departs-full tree sound (box .rows) (kept .rows-full) (kept .settled) busy (left box) (next busy);
           bytes-full = along-length tree sound _ (line-class box) (box .bytes) ∙ kept .bytes-full;
           held-full = along-length tree sound _ (line-class box) (box .held) ∙ kept .held-full;
           since-full = kept .since-full;
@@ -334,11 +314,11 @@ module _ (tree : Tree) (sound : Sound tree) (big : ℕ → ℕ) (wider : (j : �
           queues-full = length-set (box .queues) (line-class box) _ ∙ kept .queues-full;
           settled = departure-settled busy;
           heads-small = departure-small busy;
-          queues-kept = lines-after tree sound big now box kept (line-class box) (line-sender busy) (left box) (departure tree box) one;
-          heads-kept = heads-after tree sound big now box kept (line-class box) (line-sender busy) (left box) (departure tree box) one;
-          held-sender = counts-after tree sound big now box kept (line-class box) (line-sender busy) (left box) (departure tree box) one;
+          queues-kept = lines-after tree sound big now box kept (line-class box) (class busy) (left box) (departure tree box) one;
+          heads-kept = heads-after tree sound big now box kept (line-class box) (class busy) (left box) (departure tree box) one;
+          held-sender = counts-after tree sound big now box kept (line-class box) (class busy) (left box) (departure tree box) one;
           held-inner =
-              λ p inner. less-below tree sound (line-class box) (line-sender busy) (departure tree box) box (departure-held busy) p inner
+              λ p inner. less-below tree sound (line-class box) (class busy) (departure tree box) box (departure-held busy) p inner
               (kept .held-inner p inner);
           levels = λ p t inner. departure-levels busy p inner t;
           sender-virtual = λ j other. quiet .0 j other ∙ kept .sender-virtual j other;
@@ -349,31 +329,35 @@ module _ (tree : Tree) (sound : Sound tree) (big : ℕ → ℕ) (wider : (j : �
     -- an event that is not refused in this box, if its packet is no larger than its class's largest
     pub step-kept :
         (word : ℕ) (e : Event) → meeting-refused tree now word e box .number ≡ 0 → Covered tree big e → Kept tree big (suc now) (step tree now e box)
-    unfolding step has-head Covered
+    unfolding step Covered
     step-kept word (Arrival class length) passes small =
         let fits = arrival-fits tree sound now word class length box passes in
         arrival-kept (row-of tree class) length (fits .sender) (fits .some-bytes) small
     step-kept word Finish passes small =
-        departure-kept
-        (eqb-false (head (box .rows) 0) 0 (not-true (eqb (head (box .rows) 0) 0) (finish-fits tree now word box passes .1)))
+        departure-kept (has-true (box .rows) 0 (finish-fits tree now word box passes .1))
 
 -- ── a run ──
 
--- after n accepted events the box is well kept, for the largest packets of any later moment too
+-- after n accepted events the box is well kept, for any bound that grows up the tree and that no packet exceeds
+pub kept-under :
+    (tree : Tree) (events : Events) (last : ℕ) → Accepted tree events last → (big : ℕ → ℕ)
+    → ((j : ℕ) → 0 < j → j < tree .rows → big j ≤ big (parent tree j))
+    → ((i : ℕ) → i < last → ArrivalFits tree (class-word events i) (length-word events i) → length-word events i ≤ big (class-at tree events i))
+    → (n : ℕ) → n ≤ last → Kept tree big n (after tree events n)
+unfolding after
+kept-under tree events last ok big wider small zero earlier = fresh-kept tree (ok .sound) big wider
+kept-under tree events last ok big wider small (suc n) earlier =
+    let before = kept-under tree events last ok big wider small n (omega arith) in
+    turn tree events last ok n (omega arith) (Kept tree big (suc n))
+    (λ is fits. arrival-kept tree (ok .sound) big wider n (after tree events n) before (class-at tree events n) (length-word events n)
+    (fits .sender) (fits .some-bytes) (small n (omega arith) fits))
+    (λ is none busy. departure-kept tree (ok .sound) big wider n (after tree events n) before busy)
+
+-- so it is for the largest packets, of any later moment too
 pub kept :
     (tree : Tree) (events : Events) (n m : ℕ) → n ≤ m → Accepted tree events m
     → Kept tree (λ (r : ℕ). largest-for tree events r m) n (after tree events n)
-unfolding after
-kept tree events zero m earlier ok = fresh-kept tree (ok .sound) (λ r. largest-for tree events r m) (accepted-wider tree events m ok)
-kept tree events (suc n) m earlier ok = next (kept tree events n m (omega arith) ok)
-  where
-    big : ℕ → ℕ
-    big r = largest-for tree events r m
-
-    next : Kept tree big n (after tree events n) → Kept tree big (suc n) (after tree events (suc n))
-    next before =
-        turn tree events n (fewer tree events (suc n) m earlier ok) (Kept tree big (suc n))
-        (λ class length is fits. arrival-kept tree (ok .sound) big (accepted-wider tree events m ok) n (after tree events n) before
-        (row-of tree class) length (fits .sender) (fits .some-bytes)
-        (largest-covers tree events (row-of tree class) n m class length is (omega arith) (self-within tree (ok .sound) (row-of tree class))))
-        (λ is busy. departure-kept tree (ok .sound) big (accepted-wider tree events m ok) n (after tree events n) before busy)
+unfolding for-part
+kept tree events n m earlier ok =
+    kept-under tree events m ok (λ r. largest-for tree events r m) (accepted-wider tree events m ok)
+    (λ i before fits. largest-covers tree events (class-at tree events i) i m before (self-within tree (ok .sound) (class-at tree events i))) n earlier

@@ -1,14 +1,15 @@
 -- The least of some rows by a key: what the scan for it finds.
 -- Assumes nothing.
 use Prim.Native.Nat.{ℕ, zero, suc, _≤_, _<_}
-use mathlib.Core.Path.{_≡_, refl, sym, _∙_, subst}
+use mathlib.Core.Path.{_≡_, refl, sym, subst}
 use mathlib.Core.Logic.{_≢_, _⊎_, inl, inr}
-use mathlib.Core.Bool.{Bool, true, false, cond, true≢false}
+use mathlib.Core.Bool.{Bool, true, false, cond}
 use native.Mathlib.Decide.{ℕ-discrete}
 use native.Mathlib.Omega.{arith}
 use lib.Dec.{ltb}
 use borrow.Author.Tests.{ltb-true, ltb-false, eq-eqb, ne-eqb}
 use Rattle.rules.specs.Steps.{lesser, least}
+use Rattle.laws.proofs.Tests.{both-ways}
 
 -- what holds below r and at r holds below r + 1
 up-to : (P : ℕ → Type 0) (r : ℕ) → ((j : ℕ) → j < r → P j) → P r → (j : ℕ) → j < suc r → P j
@@ -18,17 +19,13 @@ up-to P r below here j inside = go (ℕ-discrete j r)
     go (yes e) = subst P (sym e) here
     go (no other) = below j (omega arith)
 
--- a test does not both fail and pass
-pub both-ways : (b : Bool) (P : Type 0) → b ≡ false → b ≡ true → P
-both-ways b P fail pass = absurd (true≢false (sym pass ∙ fail))
-
 module _ (test : ℕ → Bool) (key : ℕ → ℕ) where
   -- no row below n passes
-  abbrev pub NonePass : ℕ → Type 0
+  abbrev NonePass : ℕ → Type 0
   NonePass n = (j : ℕ) → j < n → test j ≡ false
 
   -- m is at most row j's key, if row j passes
-  abbrev pub AtMost : ℕ → ℕ → Type 0
+  abbrev AtMost : ℕ → ℕ → Type 0
   AtMost m j = test j ≡ true → m ≤ key j
 
   -- `best` passes, and none below n that passes has a lesser key

@@ -1,6 +1,6 @@
 -- A level stays balanced over every event, for any shares and any depth.
 -- Assumes nothing.
-use Prim.Native.Nat.{ℕ, zero, _+_, _*_, _-_, _≤_, _<_, max}
+use Prim.Native.Nat.{ℕ, _+_, _*_, _-_, _≤_, _<_, max}
 use mathlib.Core.Path.{_≡_, refl, sym, _∙_, ap, subst}
 use mathlib.Core.Logic.{_≢_, _⊎_, inl, inr}
 use native.Mathlib.Nat.{mul-add, add-mul, mul-left-comm, mul-zero, mul-le-mul-left}
@@ -17,6 +17,7 @@ use Rattle.laws.specs.Moves.{SameHead, SameKid, SameTop, Settled, Still,
 use Rattle.laws.specs.Moves.{Arriving, joins, opens, Departing, renews, passes-on, empties, ArrivalAt, DepartureAt}
 use Rattle.laws.specs.Level.{Mode, idle, waits, taken, Due, Behind}
 use Rattle.laws.specs.Kept.{weight, spare, mode, Taken, none, one, Ahead, Balanced}
+use Rattle.laws.proofs.Heads.{same-row}
 use Rattle.laws.proofs.Ways.{one-child}
 use Rattle.laws.proofs.Trees.{share-whole, charge-exact, charge-covers}
 use Rattle.laws.proofs.Balance.{Apart, zero-behind, same-behind, wake-behind, renew-behind, drop-behind, pick-behind, due-behind}
@@ -70,8 +71,8 @@ module _ (tree : Tree) (sound : Sound tree) (big : ℕ → ℕ) (wider : (j : �
 
   module _ (a b : Rows) (before : Settled tree a) (after : Settled tree b) (small : (r : ℕ) → r < tree .rows → head-length b r ≤ big r) (p : ℕ) (inner : Inner tree p) where
     -- p's children as they are in b, t among them taken, and p's virtual time as it is in a
-    record Ready (t : ℕ) : Type 0 where
-      waiting : (j : ℕ) → Kid tree p j → j ≢ t → head b j ≢ 0 → Ahead tree big a p j (start b j)
+    pub record Ready (t : ℕ) : Type 0 where
+      pub waiting : (j : ℕ) → Kid tree p j → j ≢ t → head b j ≢ 0 → Ahead tree big a p j (start b j)
       resting : (j : ℕ) → Kid tree p j → j ≢ t → head b j ≡ 0 → Ahead tree big a p j (finish b j)
       level : Level tree big p (mode tree b p t) (virtual a p)
 
@@ -191,16 +192,12 @@ module _ (tree : Tree) (sound : Sound tree) (big : ℕ → ℕ) (wider : (j : �
               let up : big k ≤ big p = rw (kid .under) at (wider k (kid .positive) (kid .inside)) in
               omega arith
 
-          same-self : (j : ℕ) → SameKid b b j
-          same-self j =
-              record { start-same = refl; finish-same = refl; head-same = record { packet-same = refl; length-same = refl; class-same = refl } }
-
           waiting : (j s f : ℕ) → j < tree .rows → mode tree b p 0 j ≡ waits s f → Waiting tree b p 0 j s f
           waiting j s f inside is = mode-says tree b p 0 j inside (waits s f) is
 
           others : Apart (tree .rows) k (mode tree b p 0) (mode tree b p k)
           others j inside other =
-              mode-same tree b b p 0 k j inside (λ kid-j. (ne-eqb j k other ∙ sym (ne-eqb j 0 (not-root kid-j)), same-self j))
+              mode-same tree b b p 0 k j inside (λ kid-j. (ne-eqb j k other ∙ sym (ne-eqb j 0 (not-root kid-j)), same-row b j .kid))
 
           free : (j g : ℕ) → j < tree .rows → mode tree b p 0 j ≢ taken g
           free j g inside is =
@@ -259,17 +256,20 @@ module _ (tree : Tree) (sound : Sound tree) (big : ℕ → ℕ) (wider : (j : �
         (kid .inside) (apart c others t t (λ j kid-j apart-c. refl)) (mode-idle tree a p t c kid other none-before)
         (mode-waits tree b p t c kid other (headed .has) ∙ ap (λ (s : ℕ). waits s (finish b c)) (headed .starts)) (omega arith) (balanced .behind))
 
+    -- where p has no head it is about to take a child
+    pub arrival-ready : (k c : ℕ) → ArrivalAt tree a b k p c → head a p ≡ 0 → Even tree big a p → Ready 0
+    arrival-ready k c move no-head even =
+        wakes c 0 (not-root (move .kid)) (move .kid) (move .others) (move .none-before) (move .headed) (even 0 (none no-head refl))
+
     pub arrival-even : (k c : ℕ) → ArrivalAt tree a b k p c → Even tree big a p → Even tree big b p
     arrival-even k c move even t is-taken = go (move .move)
       where
-        woken : (u : ℕ) → c ≢ u → Balanced tree big a p u → Ready u
-        woken u other = wakes c u other (move .kid) (move .others) (move .none-before) (move .headed)
-
         -- p has a head from a child u, which is not c; it is the one that b has
         joined : head a p ≢ 0 → SameTop a b p → (u : ℕ) → Kid tree p u → SameHead a p a u → Balanced tree big b p t
         joined has top u kid same =
             subst (λ (e : ℕ). Balanced tree big b p e) (sym (is-u is-taken))
-            (same-taken u top (λ kid-u. kept) balanced (woken u (λ is. other (sym is)) balanced))
+            (same-taken u top (λ kid-u. kept) balanced
+            (wakes c u (λ is. other (sym is)) (move .kid) (move .others) (move .none-before) (move .headed) balanced))
           where
             other : u ≢ c
             other is = has (sym (same .packet-same) ∙ rw is (move .none-before))
@@ -290,10 +290,11 @@ module _ (tree : Tree) (sound : Sound tree) (big : ℕ → ℕ) (wider : (j : �
         go (joins has top) =
             let from = before .from-child p inner has in
             joined has top (from .0) (from .1) (from .2)
-        go (opens u no-head pick) = pick-even u pick (woken 0 (not-root (move .kid)) (even 0 (none no-head refl))) t is-taken
+        go (opens u no-head pick) = pick-even u pick (arrival-ready k c move no-head even) t is-taken
 
-    pub departure-even : (k c : ℕ) → DepartureAt tree a b k p c → Even tree big a p → Even tree big b p
-    departure-even k c move even t is-taken = go (move .move)
+    -- child c's packet has finished: it has another or none, and p is about to take a child, if one has a head
+    pub departure-ready : (k c : ℕ) → DepartureAt tree a b k p c → Even tree big a p → Ready 0
+    departure-ready k c move even = go (move .move)
       where
         kid : Kid tree p c
         kid = move .kid
@@ -320,12 +321,23 @@ module _ (tree : Tree) (sound : Sound tree) (big : ℕ → ℕ) (wider : (j : �
             (kid .inside) others (mode-taken tree a p c c kid refl)
             (mode-idle tree b p 0 c kid (not-root kid) (drop .none) ∙ ap idle (drop .finish-same)) (balanced .behind))
 
+        go : Departing tree a b p c → Ready 0
+        go (renews u headed pick) = renewed headed
+        go (passes-on u drop pick) = dropped drop
+        go (empties drop same no-head no-length idles) = dropped drop
+
+    pub departure-even : (k c : ℕ) → DepartureAt tree a b k p c → Even tree big a p → Even tree big b p
+    departure-even k c move even t is-taken = go (move .move)
+      where
+        ready : Ready 0
+        ready = departure-ready k c move even
+
         go : Departing tree a b p c → Balanced tree big b p t
-        go (renews u headed pick) = pick-even u pick (renewed headed) t is-taken
-        go (passes-on u drop pick) = pick-even u pick (dropped drop) t is-taken
+        go (renews u headed pick) = pick-even u pick ready t is-taken
+        go (passes-on u drop pick) = pick-even u pick ready t is-taken
         go (empties drop same no-head no-length idles) =
             subst (λ (u : ℕ). Balanced tree big b p u) (sym (none-taken tree b p t no-head is-taken))
-            (stays 0 same (dropped drop) (λ root. absurd (not-root root refl)) (λ root. absurd (not-root root refl)))
+            (stays 0 same ready (λ root. absurd (not-root root refl)) (λ root. absurd (not-root root refl)))
 
   -- with no head anywhere and all tags zero, every level is balanced
   pub zero-even :

@@ -1,34 +1,46 @@
--- The theorems, bottom up.
+-- The theorems, bottom up: each file rests on files above it alone.
+
+-- tests and heads
+pub mod Tests
+pub mod Heads
+-- trees and ways
 pub mod Ways
+pub mod Depths
 pub mod Trees
-pub mod Turns
+-- one level
 pub mod Balance
 pub mod Modes
+pub mod Levels
+-- choosing, at a row and up a way
 pub mod Least
 pub mod Writing
 pub mod Choosing
-pub mod Depths
 pub mod Rising
+-- one event
 pub mod Settling
 pub mod ArrivalPath
 pub mod DeparturePath
-pub mod Paths
-pub mod Levels
-pub mod Descent
+-- events in turn
+pub mod Turns
+pub mod Largest
+-- a well-kept box
 pub mod Queues
 pub mod Holding
 pub mod Outset
-pub mod Largest
+pub mod OneEvent
 pub mod Keeping
+-- a run
 pub mod Orders
 pub mod Counting
 pub mod History
 pub mod Idle
 pub mod Sizes
 pub mod Quiet
+-- shares in a run
 pub mod Pace
 pub mod Stretch
 pub mod Promise
 pub mod Index
+-- what a run leaves
 pub mod Results
 pub mod Run

@@ -6,7 +6,7 @@ use mathlib.Core.Logic.{_≢_}
 use mathlib.Core.Bool.{Bool, true, false, cond}
 use native.Mathlib.Omega.{arith}
 use lib.Dec.{eqb}
-use borrow.Author.Tests.{eq-eqb, ne-eqb, eqb-true, eqb-false, not-true}
+use borrow.Author.Tests.{eq-eqb, ne-eqb, eqb-true, eqb-false}
 use Rattle.rules.specs.Limits.{whole}
 use Rattle.rules.specs.Classes.{Tree, share, child, children-share}
 use Rattle.rules.specs.Box.{Rows, start, finish, head, has-head}
@@ -14,6 +14,7 @@ use Rattle.laws.specs.Sound.{Sound, Kid, Inner}
 use Rattle.laws.specs.Moves.{SameKid}
 use Rattle.laws.specs.Level.{Mode, idle, waits, taken, sum}
 use Rattle.laws.specs.Kept.{weight, spare, mode}
+use Rattle.laws.proofs.Heads.{has-true, some-has, none-has}
 use Rattle.laws.proofs.Ways.{kid-child, child-kid}
 
 -- ── shares ──
@@ -52,7 +53,7 @@ pub record Waiting (tree : Tree) (a : Rows) (p t j s f : ℕ) : Type 0 where
   pub ends : f ≡ finish a j
 
 -- what a row's mode says of it
-abbrev pub Says : Tree → Rows → ℕ → ℕ → ℕ → Mode → Type 0
+abbrev Says : Tree → Rows → ℕ → ℕ → ℕ → Mode → Type 0
 Says tree a p t j (idle f) = Unit
 Says tree a p t j (waits s f) = Waiting tree a p t j s f
 Says tree a p t j (taken f) = Kid tree p j × (j ≡ t)
@@ -63,15 +64,15 @@ module _ (tree : Tree) (a : Rows) (p t j : ℕ) where
   mode-taken kid is = rw (kid-child tree p j kid, eq-eqb j t is)
 
   pub mode-waits : Kid tree p j → j ≢ t → head a j ≢ 0 → mode tree a p t j ≡ waits (start a j) (finish a j)
-  unfolding mode has-head
-  mode-waits kid other has = rw (kid-child tree p j kid, ne-eqb j t other, ne-eqb (head a j) 0 has)
+  unfolding mode
+  mode-waits kid other has = rw (kid-child tree p j kid, ne-eqb j t other, some-has a j has)
 
   pub mode-idle : Kid tree p j → j ≢ t → head a j ≡ 0 → mode tree a p t j ≡ idle (finish a j)
-  unfolding mode has-head
-  mode-idle kid other none = rw (kid-child tree p j kid, ne-eqb j t other, eq-eqb (head a j) 0 none)
+  unfolding mode
+  mode-idle kid other none = rw (kid-child tree p j kid, ne-eqb j t other, none-has a j none)
 
   pub mode-says : j < tree .rows → (x : Mode) → mode tree a p t j ≡ x → Says tree a p t j x
-  unfolding mode has-head
+  unfolding mode
   mode-says inside x is = subst (λ (y : Mode). Says tree a p t j y) is (go (child tree p j) (eqb j t) (has-head a j) refl refl refl)
     where
       go :
@@ -82,7 +83,7 @@ module _ (tree : Tree) (a : Rows) (p t j : ℕ) where
           record {
             kid = child-kid tree p j inside c;
             other = eqb-false j t e;
-            has = eqb-false (head a j) 0 (not-true (eqb (head a j) 0) h);
+            has = has-true a j h;
             starts = refl;
             ends = refl;
           }

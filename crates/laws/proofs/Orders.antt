@@ -2,22 +2,18 @@
 -- Assumes nothing.
 use Prim.Native.Nat.{ℕ, zero, suc, _+_, _-_, _≤_, _<_}
 use mathlib.Core.Path.{_≡_, refl, sym, ap, _∙_}
-use mathlib.Core.Logic.{_⊎_, inl, inr}
 use mathlib.Core.Bool.{Bool, true, false, cond}
 use mathlib.Core.List.{List, [], _∷_, _++_, append-nil, append-assoc}
 use native.Mathlib.Omega.{arith}
-use lib.Dec.{eqb}
 use lib.ListN.{length, getD, take, drop, length-drop}
 use lib.Seq.{split-at, getD-drop}
+use Rattle.rules.specs.declared.Event.{Event}
 use Rattle.rules.specs.declared.Event.the-variants.{Arrival, Finish}
 use Rattle.rules.specs.Classes.{Tree}
-use Rattle.rules.specs.Events.{Events, class-word, length-word, decode, event}
+use Rattle.rules.specs.Events.{Events, length-word, event}
 use Rattle.rules.specs.Promise.{for-part, packets-for, bytes-for}
 use Rattle.laws.specs.History.{arrivals-of, only-for}
-
-pub cond-self : {A : Type 0} (b : Bool) (x : A) → cond b x x ≡ x
-cond-self true x = refl
-cond-self false x = refl
+use Rattle.laws.proofs.Tests.{cond-self}
 
 -- ── lists ──
 
@@ -47,19 +43,6 @@ twice xs i j before inside same =
     let parts = split-at rest gap 0 long ∙ ap (λ (x : ℕ). take gap rest ++ x ∷ drop (suc gap) rest) at in
     let whole = split-at xs i 0 (omega arith) ∙ ap (λ (l : List ℕ). take i xs ++ getD xs i 0 ∷ l) parts in
     (take i xs, take gap rest, drop (suc gap) rest, whole)
-
--- ── an event is an arrival or a finish ──
-
-pub met : (events : Events) (n : ℕ) → (event events n ≡ Arrival (class-word events n) (length-word events n)) ⊎ (event events n ≡ Finish)
-unfolding event decode
-met events n = go (eqb (class-word events n) 0)
-  where
-    go :
-        (b : Bool)
-        → (cond b Finish (Arrival (class-word events n) (length-word events n)) ≡ Arrival (class-word events n) (length-word events n))
-        ⊎ (cond b Finish (Arrival (class-word events n) (length-word events n)) ≡ Finish)
-    go true = inr refl
-    go false = inl refl
 
 -- ── counting in a list that has grown ──
 
@@ -148,14 +131,12 @@ module _ (tree : Tree) (events : Events) (k n : ℕ) where
   arrivals-other other = rw (other, append-nil)
 
   ascend-next : Ascending 0 n (arrivals-of tree events k n) → Ascending 0 (suc n) (arrivals-of tree events k (suc n))
-  ascend-next so-far = go (met events n) (for-part tree events k n) refl
+  ascend-next so-far = go (event events n) refl (for-part tree events k n) refl
     where
-      go :
-          (event events n ≡ Arrival (class-word events n) (length-word events n)) ⊎ (event events n ≡ Finish)
-          → (b : Bool) → for-part tree events k n ≡ b → Ascending 0 (suc n) (arrivals-of tree events k (suc n))
-      go (inl is) true own = rw (arrivals-own _ _ is own) (ascending-last n 0 (arrivals-of tree events k n) so-far)
-      go (inl is) false other = rw (arrivals-other other) (ascending-later n 0 (arrivals-of tree events k n) so-far)
-      go (inr is) b part = rw (arrivals-finish is) (ascending-later n 0 (arrivals-of tree events k n) so-far)
+      go : (e : Event) → event events n ≡ e → (b : Bool) → for-part tree events k n ≡ b → Ascending 0 (suc n) (arrivals-of tree events k (suc n))
+      go (Arrival class length) is true own = rw (arrivals-own class length is own) (ascending-last n 0 (arrivals-of tree events k n) so-far)
+      go (Arrival class length) is false other = rw (arrivals-other other) (ascending-later n 0 (arrivals-of tree events k n) so-far)
+      go Finish is b part = rw (arrivals-finish is) (ascending-later n 0 (arrivals-of tree events k n) so-far)
 
 pub arrivals-ascend : (tree : Tree) (events : Events) (k n : ℕ) → Ascending 0 n (arrivals-of tree events k n)
 unfolding arrivals-of

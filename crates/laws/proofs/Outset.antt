@@ -12,6 +12,7 @@ use Rattle.rules.specs.Box.{Packet, fresh, held-by, queue-of}
 use Rattle.laws.specs.Sound.{Sound}
 use Rattle.laws.specs.Moves.{Settled}
 use Rattle.laws.specs.Kept.{Kept, InLine, HeadOf, held-below}
+use Rattle.laws.proofs.Trees.{zeros-full}
 use Rattle.laws.proofs.Levels.{zero-even}
 use Rattle.laws.proofs.Holding.{sum-none}
 
@@ -21,15 +22,11 @@ replicate-at zero i x = refl
 replicate-at (suc n) zero x = refl
 replicate-at (suc n) (suc i) x = replicate-at n i x
 
-zeros-at : (i : ℕ) → getD zeros i 0 ≡ 0
+pub zeros-at : (i : ℕ) → getD zeros i 0 ≡ 0
 unfolding zeros
 zeros-at i = replicate-at most-rows i 0
 
-zeros-full : length zeros ≡ most-rows
-unfolding zeros
-zeros-full = length-replicate {A = ℕ} most-rows 0
-
-empty-queue : (k : ℕ) → queue-of fresh k ≡ []
+pub empty-queue : (k : ℕ) → queue-of fresh k ≡ []
 unfolding fresh
 empty-queue k = replicate-at most-rows k []
 

@@ -4,37 +4,26 @@ use Prim.Native.Nat.{ℕ, suc, _+_, _*_, _-_, _≤_, _<_}
 use mathlib.Core.Path.{_≡_, refl, sym, _∙_, ap}
 use mathlib.Core.Logic.{_≢_, _⊎_, inl, inr}
 use mathlib.Core.Bool.{Bool, true, false, true≢false}
-use mathlib.Core.List.{List, [], _∷_, tail}
 use native.Mathlib.Decide.{ℕ-discrete}
-use native.Mathlib.Nat.{mul-add, add-mul, add-sub-of-le, mul-le-mul-left, le-refl}
+use native.Mathlib.Nat.{mul-add, add-mul, add-sub-of-le, mul-le-mul-left}
 use native.Mathlib.Omega.{arith}
 use Rattle.rules.specs.Limits.{ticks, whole, scale}
 use Rattle.rules.specs.Shares.{charge}
 use Rattle.rules.specs.Classes.{Tree, parent, share}
-use Rattle.rules.specs.Box.{Packet, Box, Rows, start, finish, virtual, head, head-length, head-class, bytes-of, held-by, queue-of}
-use Rattle.rules.specs.Steps.{arrives, arrival, departure}
+use Rattle.rules.specs.Box.{Box, Rows, start, finish, virtual, head, head-length, bytes-of}
+use Rattle.rules.specs.Steps.{arrival, departure}
 use Rattle.rules.specs.Promise.{within}
 use Rattle.laws.specs.Sound.{Sound, Kid, Inner, Sender}
-use Rattle.laws.specs.Moves.{Settled, Still, Pick, ArrivalAt, DepartureAt}
+use Rattle.laws.specs.Moves.{Settled, Still, Pick, ArrivalAt}
 use Rattle.laws.specs.Moves.{Arriving, joins, opens, Departing, renews, passes-on, empties}
-use Rattle.laws.specs.Kept.{Kept, InLine, Taken, none as nobody, one as somebody, Balanced, Ahead}
+use Rattle.laws.specs.Kept.{Kept, Taken, none as nobody, one as somebody, Balanced, Ahead}
 use Rattle.laws.specs.Counts.{OwnPace, WholePace, Paced}
-use Rattle.laws.proofs.Ways.{parent-is-inner, parent-within, one-child, along-at}
+use Rattle.laws.proofs.Tests.{cond-least}
+use Rattle.laws.proofs.Ways.{its-parent, parent-is-inner, parent-within, one-child}
 use Rattle.laws.proofs.Trees.{charge-exact, share-whole}
-use Rattle.laws.proofs.Paths.{NextFits, arrives-at, path-heads, departs-on, departs-off}
 use Rattle.laws.proofs.Levels.{not-behind}
-use Rattle.laws.proofs.Keeping.{idle-holds-none, departure-kept}
-
--- a row other than the root, seen from its parent's level
-pub own-kid : (tree : Tree) (j : ℕ) → 0 < j → j < tree .rows → Kid tree (parent tree j) j
-own-kid tree j positive inside = record { positive = positive; inside = inside; under = refl }
-
--- what is left of a queue in line has some bytes in front
-next-fits : (now most least : ℕ) (queue : List Packet) → InLine now most least queue → NextFits (tail queue)
-unfolding InLine
-next-fits now most least [] fits = tt
-next-fits now most least (packet ∷ []) fits = tt
-next-fits now most least (packet ∷ next ∷ later) fits = fits .4 .2
+use Rattle.laws.proofs.OneEvent.{line-class, arrival-at, arrival-bytes, line-sender, departure-on, departure-off, departure-bytes, bytes-on, bytes-off}
+use Rattle.laws.proofs.Keeping.{holds-head, departure-kept}
 
 -- the line in numbers: a share w, a virtual time v, the bytes finished and taken x, a start s, a charge e, bytes b, each at the first and
 -- at the second moment, and the largest packets below and above
@@ -49,23 +38,19 @@ line-sum w v v′ s s′ e x x′ b b′ below above part top late charged own e
     let late-times = mul-le-mul-left w late in
     omega arith
 
--- the class whose packet is on the line
-abbrev line-class : Box → ℕ
-line-class box = head-class (box .rows) 0
-
 -- ── one level, one event ──
 
 module _ (tree : Tree) (a b : Rows) (p : ℕ) where
   -- a row that takes a child passes over its packet
-  picked : (k : ℕ) → Pick tree a b p k → virtual a p + ticks * head-length b p ≤ virtual b p
-  picked k pick = let same = pick .takes .length-same in omega arith
+  pick-passes : (k : ℕ) → Pick tree a b p k → virtual a p + ticks * head-length b p ≤ virtual b p
+  pick-passes k pick = let same = pick .takes .length-same in omega arith
 
   -- what an arrival does: a child with a head keeps its start, and p's virtual time covers its new head
   came-start : (k j : ℕ) → Kid tree p j → head a j ≢ 0 → Still tree a b p ⊎ ((c : ℕ) × ArrivalAt tree a b k p c) → start b j ≡ start a j
   came-start k j kid has (inl still) = still .kids j kid .start-same
   came-start k j kid has (inr at) = at .1 .others j kid (λ same. has (rw same (at .1 .none-before))) .start-same
 
-  came-top :
+  pub came-top :
       (k : ℕ) → Still tree a b p ⊎ ((c : ℕ) × ArrivalAt tree a b k p c)
       → virtual a p + ticks * head-length b p ≤ virtual b p + ticks * head-length a p
   came-top k (inl still) = let same = still .top in omega arith
@@ -73,7 +58,7 @@ module _ (tree : Tree) (a b : Rows) (p : ℕ) where
     where
       moved : (c : ℕ) → Arriving tree a b p c → virtual a p + ticks * head-length b p ≤ virtual b p + ticks * head-length a p
       moved c (joins has same) = omega arith
-      moved c (opens t idle pick) = let covers = picked t pick in omega arith
+      moved c (opens t idle pick) = let covers = pick-passes t pick in omega arith
 
   -- what a finish does: the child whose packet it was starts again at its finish, and p's virtual time covers its new head
   left-start : (c : ℕ) → Departing tree a b p c → head b c ≢ 0 → start b c ≡ finish a c
@@ -81,138 +66,107 @@ module _ (tree : Tree) (a b : Rows) (p : ℕ) where
   left-start c (passes-on k dropped pick) has = absurd (has (dropped .none))
   left-start c (empties dropped same no-head no-length below) has = absurd (has (dropped .none))
 
-  left-top : (c : ℕ) → Departing tree a b p c → virtual a p + ticks * head-length b p ≤ virtual b p
-  left-top c (renews k headed pick) = picked k pick
-  left-top c (passes-on k dropped pick) = picked k pick
+  pub left-top : (c : ℕ) → Departing tree a b p c → virtual a p + ticks * head-length b p ≤ virtual b p
+  left-top c (renews k headed pick) = pick-passes k pick
+  left-top c (passes-on k dropped pick) = pick-passes k pick
   left-top c (empties dropped same no-head no-length below) = omega arith
 
 -- ── one event ──
 
 module _ (tree : Tree) (sound : Sound tree) (big : ℕ → ℕ) (wider : (j : ℕ) → 0 < j → j < tree .rows → big j ≤ big (parent tree j)) where
-  -- a row that holds a packet has a head
-  pub holds-head : (now : ℕ) (box : Box) → Kept tree big now box → (r : ℕ) → r < tree .rows → 0 < held-by box r → head (box .rows) r ≢ 0
-  holds-head now box kept r inside holds idle =
-      let empty = idle-holds-none tree sound big wider now box kept r inside idle in
-      omega arith
-
   module _ (now : ℕ) (box : Box) (kept : Kept tree big now box) where
-    -- how large the packet is plays no part
-    pub came-paced : (k length : ℕ) → Sender tree k → 0 < length → Paced tree box (arrival tree now k length box)
-    unfolding arrival
-    came-paced k length sender some =
+    pub arrival-paced : (k length : ℕ) → Sender tree k → 0 < length → Paced tree box (arrival tree now k length box)
+    arrival-paced k length sender some =
         record {
           own = λ j positive inside holds later.
-              let kid = own-kid tree j positive inside in
-              rw
-              (came-start tree (box .rows) rows-after (parent tree j) k j kid (holds-head now box kept j inside holds)
-              (level (parent tree j) (parent-is-inner tree sound (parent tree j) j kid)));
-          top = λ p inner. let covers = came-top tree (box .rows) rows-after p k (level p inner) in omega arith;
-          grows = λ r inside. le-refl (bytes-of box r);
+              let kid = its-parent tree sound j positive inside in
+              rw (
+                bytes j,
+                came-start tree (box .rows) next (parent tree j) k j kid (holds-head tree sound big wider now box kept j inside holds)
+                    (level (parent tree j) (parent-is-inner tree sound (parent tree j) j kid)),
+              );
+          top = λ p inner. let covers = came-top tree (box .rows) next p k (level p inner) in let same = bytes p in omega arith;
+          grows = λ r inside. let same = bytes r in omega arith;
         }
       where
-        rows-after : Rows
-        rows-after = arrives tree now k length (box .rows)
+        next : Rows
+        next = arrival tree now k length box .rows
 
-        level : (p : ℕ) → Inner tree p → Still tree (box .rows) rows-after p ⊎ ((c : ℕ) × ArrivalAt tree (box .rows) rows-after k p c)
-        level = arrives-at tree sound (box .rows) (kept .rows-full) (kept .settled) now k length sender some
+        level : (p : ℕ) → Inner tree p → Still tree (box .rows) next p ⊎ ((c : ℕ) × ArrivalAt tree (box .rows) next k p c)
+        level = arrival-at tree sound big now box kept k length sender some
 
-    pub arrival-paced : (k length : ℕ) → Sender tree k → 0 < length → length ≤ big k → Paced tree box (arrival tree now k length box)
-    arrival-paced k length sender some small = came-paced k length sender some
+        bytes : (r : ℕ) → bytes-of (arrival tree now k length box) r ≡ bytes-of box r
+        bytes = arrival-bytes tree sound big now box kept k length sender
 
     module _ (busy : head (box .rows) 0 ≢ 0) where
-      on-line : Sender tree (line-class box)
-      on-line = kept .settled .of-sender 0 (sound .some-rows) busy
+      abbrev next : Rows
+      next = departure tree box .rows
 
-      next : NextFits (tail (queue-of box (line-class box)))
-      next = next-fits now (big (line-class box)) 0 (queue-of box (line-class box)) (kept .queues-kept (line-class box) on-line)
-
-      -- a row on the way has finished its head
-      bytes-on : (r : ℕ) → r < tree .rows → within tree r (line-class box) ≡ true → bytes-of (departure tree box) r ≡ bytes-of box r + head-length (box .rows) r
-      unfolding departure
-      bytes-on r inside on =
-          along-at tree sound (λ i n. n + head-length (box .rows) 0) (line-class box) r (box .bytes) (on-line .inside) inside (kept .bytes-full)
-          ∙ rw (on, path-heads tree sound (box .rows) (kept .rows-full) (kept .settled) busy r inside on .length-same)
-
-      bytes-off : (r : ℕ) → r < tree .rows → within tree r (line-class box) ≡ false → bytes-of (departure tree box) r ≡ bytes-of box r
-      unfolding departure
-      bytes-off r inside off =
-          along-at tree sound (λ i n. n + head-length (box .rows) 0) (line-class box) r (box .bytes) (on-line .inside) inside (kept .bytes-full)
-          ∙ rw off
-
-      level-on :
-          (p : ℕ) → Inner tree p → within tree p (line-class box) ≡ true
-          → (c : ℕ) × DepartureAt tree (box .rows) (departure tree box .rows) (line-class box) p c
-      unfolding departure
-      level-on = departs-on tree sound (box .rows) (kept .rows-full) (kept .settled) busy (tail (queue-of box (line-class box))) next
-
-      level-off : (p : ℕ) → Inner tree p → within tree p (line-class box) ≡ false → Still tree (box .rows) (departure tree box .rows) p
-      unfolding departure
-      level-off = departs-off tree sound (box .rows) (kept .rows-full) (kept .settled) busy (tail (queue-of box (line-class box))) next
+      class : Sender tree (line-class box)
+      class = line-sender tree sound big now box kept busy
 
       -- a child on the way that has a next packet starts it at its finish; one that is not on the way keeps its start
       start-on :
-          (p j : ℕ) → Kid tree p j → within tree j (line-class box) ≡ true → head (departure tree box .rows) j ≢ 0
-          → start (departure tree box .rows) j ≡ finish (box .rows) j
+          (p j : ℕ) → Kid tree p j → within tree j (line-class box) ≡ true → head next j ≢ 0
+          → start next j ≡ finish (box .rows) j
       start-on p j kid on has =
           let inner = parent-is-inner tree sound p j kid in
-          let at = level-on p inner (parent-within tree sound p j (line-class box) (on-line .inside) kid on) in
-          left-start tree (box .rows) (departure tree box .rows) p j
-          (rw (one-child tree sound p j (at .0) (line-class box) (on-line .inside) kid (at .1 .kid) on (at .1 .on-path)) (at .1 .move))
+          let at = departure-on tree sound big now box kept busy p inner (parent-within tree sound p j (line-class box) (class .inside) kid on) in
+          left-start tree (box .rows) next p j
+          (rw (one-child tree sound p j (at .0) (line-class box) (class .inside) kid (at .1 .kid) on (at .1 .on-path)) (at .1 .move))
           has
 
       start-off :
           (p j : ℕ) → Kid tree p j → within tree j (line-class box) ≡ false
-          → start (departure tree box .rows) j ≡ start (box .rows) j
+          → start next j ≡ start (box .rows) j
       start-off p j kid off = go (within tree p (line-class box)) refl
         where
           inner : Inner tree p
           inner = parent-is-inner tree sound p j kid
 
-          go : (b : Bool) → within tree p (line-class box) ≡ b → start (departure tree box .rows) j ≡ start (box .rows) j
+          go : (b : Bool) → within tree p (line-class box) ≡ b → start next j ≡ start (box .rows) j
           go true on =
-              let at = level-on p inner on in
+              let at = departure-on tree sound big now box kept busy p inner on in
               at .1 .others j kid (λ same. true≢false (sym (at .1 .on-path) ∙ (rw same at off))) .start-same
-          go false away = level-off p inner away .kids j kid .start-same
+          go false away = departure-off tree sound big now box kept busy p inner away .kids j kid .start-same
 
-      departure-own : (p j : ℕ) → Kid tree p j → head (box .rows) j ≢ 0 → head (departure tree box .rows) j ≢ 0 → OwnPace tree box (departure tree box) j
+      departure-own : (p j : ℕ) → Kid tree p j → head (box .rows) j ≢ 0 → head next j ≢ 0 → OwnPace tree box (departure tree box) j
       departure-own p j kid had has = go (within tree j (line-class box)) refl
         where
           go : (b : Bool) → within tree j (line-class box) ≡ b → OwnPace tree box (departure tree box) j
           go true on =
               let length = head-length (box .rows) j in
               let cost = charge length (share tree j) in
-              rw (start-on p j kid on has, kept .settled .tagged j (kid .positive) (kid .inside) had, bytes-on j (kid .inside) on)
+              rw (start-on p j kid on has, kept .settled .tagged j (kid .positive) (kid .inside) had, bytes-on tree sound big now box kept busy j (kid .inside) on)
               (let total = mul-add (share tree j) (start (box .rows) j) cost in
               let exact = charge-exact (share tree j) length (sound .share-allowed j (kid .positive) (kid .inside)) in
               omega arith)
-          go false off = rw (start-off p j kid off, bytes-off j (kid .inside) off)
+          go false off = rw (start-off p j kid off, bytes-off tree sound big now box kept busy j (kid .inside) off)
 
       departure-top : (p : ℕ) → Inner tree p → WholePace box (departure tree box) p
       departure-top p inner = go (within tree p (line-class box)) refl
         where
           go : (b : Bool) → within tree p (line-class box) ≡ b → WholePace box (departure tree box) p
           go true on =
-              let bytes = bytes-on p (inner .inside) on in
-              let covers = left-top tree (box .rows) (departure tree box .rows) p (level-on p inner on .0) (level-on p inner on .1 .move) in
+              let bytes = bytes-on tree sound big now box kept busy p (inner .inside) on in
+              let (c, at) = departure-on tree sound big now box kept busy p inner on in
+              let covers = left-top tree (box .rows) next p c (at .move) in
               omega arith
           go false off =
-              let bytes = bytes-off p (inner .inside) off in
-              let same = level-off p inner off .top in
+              let bytes = bytes-off tree sound big now box kept busy p (inner .inside) off in
+              let same = departure-off tree sound big now box kept busy p inner off .top in
               omega arith
 
       departure-grows : (r : ℕ) → r < tree .rows → bytes-of box r ≤ bytes-of (departure tree box) r
-      departure-grows r inside = go (within tree r (line-class box)) refl
-        where
-          go : (b : Bool) → within tree r (line-class box) ≡ b → bytes-of box r ≤ bytes-of (departure tree box) r
-          go true on = let bytes = bytes-on r inside on in omega arith
-          go false off = let bytes = bytes-off r inside off in omega arith
+      departure-grows r inside =
+          rw (departure-bytes tree sound big now box kept busy r inside) (cond-least (within tree r (line-class box)) _ _ _ (omega arith) (omega arith))
 
     pub departure-paced : head (box .rows) 0 ≢ 0 → Paced tree box (departure tree box)
     departure-paced busy =
         record {
           own = λ j positive inside holds still-holds.
-              departure-own busy (parent tree j) j (own-kid tree j positive inside) (holds-head now box kept j inside holds)
-              (holds-head (suc now) (departure tree box) (departure-kept tree sound big wider now box kept busy) j inside still-holds);
+              departure-own busy (parent tree j) j (its-parent tree sound j positive inside) (holds-head tree sound big wider now box kept j inside holds)
+              (holds-head tree sound big wider (suc now) (departure tree box) (departure-kept tree sound big wider now box kept busy) j inside still-holds);
           top = departure-top busy;
           grows = departure-grows busy;
         }
@@ -252,6 +206,15 @@ module _ (tree : Tree) (sound : Sound tree) (big : ℕ → ℕ) (wider : (j : �
           omega arith
       go (no other) = balanced .ahead-waiting j kid other has
 
+  -- and the virtual time is past its finish by one largest packet at most
+  pub finishes-late :
+      (now : ℕ) (box : Box) → Kept tree big now box → (p j : ℕ) → Kid tree p j → head (box .rows) j ≢ 0
+      → virtual (box .rows) p ≤ finish (box .rows) j + ticks * big p
+  finishes-late now box kept p j kid has =
+      let inner = parent-is-inner tree sound p j kid in
+      let (t, taken) = taken-child (box .rows) (kept .settled) p inner in
+      not-behind tree sound big wider (box .rows) p j t inner kid has taken (kept .levels p t inner taken)
+
   -- between two moments at both of which row j, a child of p, holds a packet, with its own pace kept: what p finished, times j's share,
   -- is at most what j finished, times the whole, and two largest packets of j's part, but for the largest packets and the heads at the ends
   pub line :
@@ -261,10 +224,8 @@ module _ (tree : Tree) (sound : Sound tree) (big : ℕ → ℕ) (wider : (j : �
       → share tree j * (bytes-of two p + head-length (two .rows) p + big j)
       ≤ share tree j * (bytes-of one p + head-length (one .rows) p + big p) + whole * ((bytes-of two j - bytes-of one j) + 2 * big j)
   line one two m n p j kept-one kept-two kid has-one has-two own top grows =
-      let inner = parent-is-inner tree sound p j kid in
-      let taken = taken-child (two .rows) (kept-two .settled) p inner in
       let allowed = sound .share-allowed j (kid .positive) (kid .inside) in
-      let late = not-behind tree sound big wider (two .rows) p j (taken .0) inner kid has-two (taken .1) (kept-two .levels p (taken .0) inner (taken .1)) in
+      let late = finishes-late n two kept-two p j kid has-two in
       let ends = kept-two .settled .tagged j (kid .positive) (kid .inside) has-two in
       let small = kept-two .heads-small j (kid .inside) in
       let exact = charge-exact (share tree j) (head-length (two .rows) j) allowed in

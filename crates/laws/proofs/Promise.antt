@@ -1,65 +1,37 @@
 -- The promise on shares, and the bound on every lag.
 -- Assumes nothing.
-use Prim.Native.Nat.{ℕ, zero, suc, pred, _+_, _*_, _-_, _≤_, _<_, zero-le}
+use Prim.Native.Nat.{ℕ, zero, suc, pred, _+_, _*_, _-_, _≤_, _<_}
 use mathlib.Core.Path.{_≡_, refl, sym, _∙_, ap, subst}
-use mathlib.Core.Logic.{_≢_}
-use mathlib.Core.Bool.{Bool, true, false, cond}
-use native.Mathlib.Decide.{ℕ-discrete, le-ind}
+use mathlib.Core.Bool.{Bool, true, false}
+use native.Mathlib.Decide.{ℕ-discrete}
 use native.Mathlib.Nat.{mul-add, mul-le-mul-left, mul-le-mul-right, add-sub-of-le, pos-of-ne-zero, le-refl}
 use native.Mathlib.Omega.{arith}
 use lib.Dec.{ltb}
-use lib.ListN.{getD, getD-replicate}
+use lib.ListN.{getD}
 use borrow.Author.Tests.{ltb-false, eq-eqb, ne-eqb}
 use lib.IntN.{pos, _-ℤ_, pos-ne-negsuc}
-use Rattle.rules.specs.Limits.{most-rows, whole}
-use Rattle.rules.specs.Classes.{Tree, parent, depth, share, zeros}
-use Rattle.rules.specs.Events.{Events, length-word}
-use Rattle.rules.specs.Box.{Box, fresh, head, bytes-of, held-by}
+use Rattle.rules.specs.Limits.{whole}
+use Rattle.rules.specs.Classes.{Tree, parent, depth, share}
+use Rattle.rules.specs.Events.{Events}
+use Rattle.rules.specs.Box.{fresh, bytes-of, held-by}
 use Rattle.rules.specs.Steps.{after}
 use Rattle.rules.specs.Outcome.{lag}
-use Rattle.rules.specs.Promise.{for-part, bytes-for, finished-in, Backlogged, Ratio, step-up, climbed, number, largest}
-use Rattle.laws.specs.Sound.{Sound, Kid, Sender}
-use Rattle.laws.specs.Kept.{Kept}
+use Rattle.rules.specs.Promise.{bytes-for, finished-in, Backlogged, Ratio, step-up, climbed, number, largest}
+use Rattle.laws.specs.Sound.{Kid, Sender}
 use Rattle.laws.specs.History.{Accepted, largest-for}
-use Rattle.laws.specs.Counts.{OwnPace, WholePace, Paced}
-use Rattle.laws.proofs.Ways.{parent-is-inner}
+use Rattle.laws.proofs.Ways.{its-parent, at-root, below-root, parent-is-inner}
 use Rattle.laws.proofs.Trees.{share-whole}
+use Rattle.laws.proofs.Largest.{part-largest, accepted-wider}
+use Rattle.laws.proofs.Outset.{zeros-at}
 use Rattle.laws.proofs.Keeping.{busy-holds, kept}
-use Rattle.laws.proofs.Largest.{accepted-wider}
 use Rattle.laws.proofs.History.{holds-held}
-use Rattle.laws.proofs.Pace.{own-kid, holds-head, came-paced, departure-paced, line}
-use Rattle.laws.proofs.Stretch.{Happens, comes, goes, happens, marks-stay, wakes, bytes-in}
+use Rattle.laws.proofs.Pace.{line}
+use Rattle.laws.proofs.Stretch.{head-at, stretch, marks-stay, wakes, bytes-in}
+pub use Rattle.laws.proofs.Stretch.{Keeps}
 
--- ── between two moments of a run ──
+-- ── in numbers ──
 
--- row r holds a packet after each of the events m .. n - 1, and at the moment m
-abbrev pub Keeps : Tree → Events → ℕ → ℕ → ℕ → Type 0
-Keeps tree events r m n = (i : ℕ) → m ≤ i → i ≤ n → 0 < held-by (after tree events i) r
-
--- a moment m from which on row r holds a packet, with the counts from which its lag at n is counted
-abbrev Since : Tree → Events → ℕ → ℕ → Type 0
-Since tree events r n =
-    (m : ℕ) × (m ≤ n) × Keeps tree events r m n × (getD (after tree events n .since) r 0 ≡ bytes-of (after tree events m) r)
-    × (getD (after tree events n .parent-since) r 0 ≡ bytes-of (after tree events m) (parent tree r))
-
--- a part's largest packet in a run, by row
-abbrev big : Tree → Events → ℕ → ℕ → ℕ
-big tree events last r = largest-for tree events r last
-
--- a part's largest packet is at most the largest
-part-small : (tree : Tree) (events : Events) (r n : ℕ) → largest-for tree events r n ≤ largest events n
-unfolding largest-for largest
-part-small tree events r zero = le-refl 0
-part-small tree events r (suc n) =
-    let earlier = part-small tree events r n in
-    let here = go (for-part tree events r n) in
-    omega arith
-  where
-    go : (b : Bool) → cond b (length-word events n) 0 ≤ length-word events n
-    go true = le-refl (length-word events n)
-    go false = zero-le
-
--- the step in numbers: from the sharp form with a share w and largest packets below, above and overall to the form with three largest packets
+-- a step: from the sharp form with a share w and largest packets below, above and overall to the form with three largest packets
 step-sum :
     (w x x′ own below above most : ℕ) → w ≤ whole → below ≤ most → above ≤ most → x ≤ x′
     → w * (x′ + below) ≤ w * (x + 2 * above) + whole * (own + 2 * below)
@@ -97,71 +69,22 @@ lag-less x (suc y) lagging is = go (ltb x (suc y)) refl
         let same : x - suc y ≡ lagging = cc in
         omega arith
 
--- the root, and no other row, has depth 0
-root-only : (tree : Tree) → Sound tree → (k : ℕ) → k < tree .rows → depth tree k ≡ 0 → k ≡ 0
-root-only tree sound k inside flat = go (ℕ-discrete k 0)
-  where
-    go : Dec (k ≡ 0) → k ≡ 0
-    go (yes is) = is
-    go (no other) = let deeper = sound .deeper k (omega arith) inside in absurd (omega arith)
+-- ── in a run ──
 
-root-flat : (tree : Tree) → Sound tree → (k d : ℕ) → depth tree k ≡ suc d → 0 < k
-root-flat tree sound k d deep = go (ℕ-discrete k 0)
-  where
-    go : Dec (k ≡ 0) → 0 < k
-    go (yes is) = let flat : depth tree k ≡ 0 = rw is (sound .root-depth) in absurd (omega arith)
-    go (no other) = omega arith
+-- a moment m from which on row r holds a packet, with the counts from which its lag at n is counted
+abbrev Since : Tree → Events → ℕ → ℕ → Type 0
+Since tree events r n =
+    (m : ℕ) × (m ≤ n) × Keeps tree events r m n × (getD (after tree events n .since) r 0 ≡ bytes-of (after tree events m) r)
+    × (getD (after tree events n .parent-since) r 0 ≡ bytes-of (after tree events m) (parent tree r))
 
 module _ (tree : Tree) (events : Events) (last : ℕ) (ok : Accepted tree events last) where
-  wider : (j : ℕ) → 0 < j → j < tree .rows → big tree events last j ≤ big tree events last (parent tree j)
-  wider = accepted-wider tree events last ok
-
-  kept-at : (i : ℕ) → i ≤ last → Kept tree (big tree events last) i (after tree events i)
-  kept-at i earlier = kept tree events i last earlier ok
-
-  has-head-at : (i r : ℕ) → i ≤ last → r < tree .rows → 0 < held-by (after tree events i) r → head (after tree events i .rows) r ≢ 0
-  has-head-at i r earlier inside = holds-head tree (ok .sound) (big tree events last) wider i (after tree events i) (kept-at i earlier) r inside
-
-  -- each event keeps the pace
-  paced : (i : ℕ) → i < last → Paced tree (after tree events i) (after tree events (suc i))
-  paced i inside = go (after tree events (suc i)) (happens tree events last ok i inside)
-    where
-      well : Kept tree (big tree events last) i (after tree events i)
-      well = kept-at i (omega arith)
-
-      go : (next : Box) → Happens tree i (after tree events i) next → Paced tree (after tree events i) next
-      go next (comes k length sender some is) = rw is (came-paced tree (ok .sound) (big tree events last) wider i (after tree events i) well k length sender some)
-      go next (goes busy is) = rw is (departure-paced tree (ok .sound) (big tree events last) wider i (after tree events i) well busy)
-
   -- a row's ancestors hold a packet where it does
   pub keeps-up : (j m n : ℕ) → 0 < j → j < tree .rows → n ≤ last → Keeps tree events j m n → Keeps tree events (parent tree j) m n
   keeps-up j m n positive inside earlier keeps i from to =
-      let well = kept-at i (omega arith) in
-      let kid = own-kid tree j positive inside in
-      busy-holds tree (ok .sound) (big tree events last) wider i (after tree events i) well (parent tree j) (ok .sound .parent-row j positive inside)
-      (λ idle. has-head-at i j (omega arith) inside (keeps i from to) (well .settled .idle-below (parent tree j) idle j kid))
-
-  -- and so the pace is kept over a stretch in all of which a child holds a packet
-  stretch :
-      (p j m n : ℕ) → Kid tree p j → m ≤ n → n ≤ last → Keeps tree events j m n
-      → OwnPace tree (after tree events m) (after tree events n) j × WholePace (after tree events m) (after tree events n) p
-      × (bytes-of (after tree events m) j ≤ bytes-of (after tree events n) j) × (bytes-of (after tree events m) p ≤ bytes-of (after tree events n) p)
-  stretch p j m n kid order =
-      le-ind
-      (λ (n : ℕ). n ≤ last → Keeps tree events j m n
-      → OwnPace tree (after tree events m) (after tree events n) j × WholePace (after tree events m) (after tree events n) p
-      × (bytes-of (after tree events m) j ≤ bytes-of (after tree events n) j) × (bytes-of (after tree events m) p ≤ bytes-of (after tree events n) p))
-      (λ earlier keeps. (refl, le-refl _, le-refl _, le-refl _))
-      (λ i from before earlier keeps.
-      let so-far = before (omega arith) (λ x low high. keeps x low (omega arith)) in
-      let next = paced i earlier in
-      let inner = parent-is-inner tree (ok .sound) p j kid in
-      let own = next .own j (kid .positive) (kid .inside) (keeps i from (omega arith)) (keeps (suc i) (omega arith) (omega arith)) in
-      let top = next .top p inner in
-      let below = next .grows j (kid .inside) in
-      let above = next .grows p (inner .inside) in
-      omega arith)
-      n order
+      let well = kept tree events i last (omega arith) ok in
+      let kid = its-parent tree (ok .sound) j positive inside in
+      busy-holds tree (ok .sound) _ (accepted-wider tree events last ok) i _ well (parent tree j) (ok .sound .parent-row j positive inside)
+      (λ idle. head-at tree events last ok i j (omega arith) inside (keeps i from to) (well .settled .idle-below (parent tree j) idle j kid))
 
   -- one step up the tree, in its sharp form
   pub sharp :
@@ -170,13 +93,14 @@ module _ (tree : Tree) (events : Events) (last : ℕ) (ok : Accepted tree events
       ≤ share tree j * (bytes-of (after tree events m) p + 2 * largest-for tree events p last)
       + whole * ((bytes-of (after tree events n) j - bytes-of (after tree events m) j) + 2 * largest-for tree events j last)
   sharp p j m n kid order earlier keeps =
-      let pace = stretch p j m n kid order earlier keeps in
-      let sure = line tree (ok .sound) (big tree events last) wider (after tree events m) (after tree events n) m n p j
-      (kept-at m (omega arith)) (kept-at n earlier) kid
-      (has-head-at m j (omega arith) (kid .inside) (keeps m (omega arith) order)) (has-head-at n j earlier (kid .inside) (keeps n order (omega arith)))
-      (pace .0) (pace .1) (pace .2) in
+      let pace = stretch tree events last ok p j m n kid order earlier keeps in
+      let first = kept tree events m last (omega arith) ok in
+      let sure =
+      line tree (ok .sound) _ (accepted-wider tree events last ok) (after tree events m) (after tree events n) m n p j first
+      (kept tree events n last earlier ok) kid (head-at tree events last ok m j (omega arith) (kid .inside) (keeps m (omega arith) order))
+      (head-at tree events last ok n j earlier (kid .inside) (keeps n order (omega arith))) (pace .own) (pace .top) (pace .grows) in
       let inner = parent-is-inner tree (ok .sound) p j kid in
-      let small = mul-le-mul-left (share tree j) (kept-at m (omega arith) .heads-small p (inner .inside)) in
+      let small = mul-le-mul-left (share tree j) (first .heads-small p (inner .inside)) in
       omega arith
 
   -- and in the form that the number on paper has
@@ -188,7 +112,7 @@ module _ (tree : Tree) (events : Events) (last : ℕ) (ok : Accepted tree events
       step-sum (share tree j) (bytes-of (after tree events m) p) (bytes-of (after tree events n) p)
       (bytes-of (after tree events n) j - bytes-of (after tree events m) j) (largest-for tree events j last) (largest-for tree events p last) (largest events last)
       (share-whole (share tree j) (ok .sound .share-allowed j (kid .positive) (kid .inside)))
-      (part-small tree events j last) (part-small tree events p last) (stretch p j m n kid order earlier keeps .3)
+      (part-largest tree events j last) (part-largest tree events p last) (stretch tree events last ok p j m n kid order earlier keeps .parent-grows)
       (sharp p j m n kid order earlier keeps)
 
   -- ── up the tree ──
@@ -200,11 +124,11 @@ module _ (tree : Tree) (events : Events) (last : ℕ) (ok : Accepted tree events
       ≤ climbed d tree (largest events last) k q .numerator
   unfolding climbed step-up
   climb zero k m n q inside deep order earlier keeps below =
-      rw (root-only tree (ok .sound) k inside deep) at below
+      rw (at-root tree (ok .sound) k inside deep) at below
   climb (suc d) k m n q inside deep order earlier keeps below =
-      let positive : 0 < k = root-flat tree (ok .sound) k d deep in
+      let positive = below-root tree (ok .sound) k d deep in
       let deeper = ok .sound .deeper k positive inside in
-      let kid = own-kid tree k positive inside in
+      let kid = its-parent tree (ok .sound) k positive inside in
       climb d (parent tree k) m n (step-up (largest events last) (share tree k) q) (ok .sound .parent-row k positive inside) (omega arith) order earlier
       (keeps-up k m n positive inside earlier keeps)
       (climb-sum (share tree k) (bytes-of (after tree events n) (parent tree k) - bytes-of (after tree events m) (parent tree k))
@@ -228,9 +152,7 @@ module _ (tree : Tree) (events : Events) (last : ℕ) (ok : Accepted tree events
           Dec (held-by (after tree events a) r ≡ 0)
           → (m : ℕ) × (m ≤ b) × Keeps tree events r m b × ((x : ℕ) → bytes-of (after tree events m) x ≡ bytes-of (after tree events a) x)
       go (yes empty) =
-          let woken =
-          wakes tree (ok .sound) (big tree events last) a (after tree events a) (kept-at a (omega arith)) r inside (after tree events (suc a))
-          (happens tree events last ok a (omega arith)) empty (holds a (omega arith) order) in
+          let woken = wakes tree events last ok a r (omega arith) inside empty (holds a (omega arith) order) in
           (suc a, order, later, woken .2)
       go (no some) = (a, omega arith, at, λ x. refl)
         where
@@ -285,9 +207,7 @@ module _ (tree : Tree) (events : Events) (last : ℕ) (ok : Accepted tree events
       (r n : ℕ) → r < tree .rows → n < last → 0 < held-by (after tree events (suc n)) r → Dec (held-by (after tree events n) r ≡ 0)
       → (0 < held-by (after tree events n) r → Since tree events r n) → Since tree events r (suc n)
   backlog-on r n inside earlier holds (yes empty) before =
-      let woken =
-      wakes tree (ok .sound) (big tree events last) n (after tree events n) (kept-at n (omega arith)) r inside (after tree events (suc n))
-      (happens tree events last ok n earlier) empty holds in
+      let woken = wakes tree events last ok n r earlier inside empty holds in
       (suc n, le-refl (suc n), now, woken .0 ∙ sym (woken .2 r), woken .1 ∙ sym (woken .2 (parent tree r)))
     where
       now : Keeps tree events r (suc n) (suc n)
@@ -296,9 +216,7 @@ module _ (tree : Tree) (events : Events) (last : ℕ) (ok : Accepted tree events
           rw is holds
   backlog-on r n inside earlier holds (no some) before =
       let since = before (pos-of-ne-zero some) in
-      let marks =
-      marks-stay tree (ok .sound) (big tree events last) n (after tree events n) (kept-at n (omega arith)) r inside (after tree events (suc n))
-      (happens tree events last ok n earlier) (pos-of-ne-zero some) in
+      let marks = marks-stay tree events last ok n r earlier inside (pos-of-ne-zero some) in
       (since .0, omega arith, on (since .0) (since .2), marks .0 ∙ since .3, marks .1 ∙ since .4)
     where
       on : (m : ℕ) → Keeps tree events r m n → Keeps tree events r m (suc n)
@@ -313,11 +231,8 @@ module _ (tree : Tree) (events : Events) (last : ℕ) (ok : Accepted tree events
       (r n : ℕ) → r < tree .rows → n ≤ last → 0 < held-by (after tree events n) r
       → (m : ℕ) × (m ≤ n) × Keeps tree events r m n × (getD (after tree events n .since) r 0 ≡ bytes-of (after tree events m) r)
       × (getD (after tree events n .parent-since) r 0 ≡ bytes-of (after tree events m) (parent tree r))
-  unfolding after fresh zeros
-  backlog r zero inside earlier holds =
-      let few = ok .sound .few-rows in
-      let none = getD-replicate {A = ℕ} most-rows r 0 0 (omega arith) in
-      absurd (omega arith)
+  unfolding after fresh
+  backlog r zero inside earlier holds = let none = zeros-at r in absurd (omega arith)
   backlog r (suc n) inside earlier holds =
       backlog-on r n inside earlier holds (ℕ-discrete (held-by (after tree events n) r) 0) (backlog r n inside (omega arith))
 
@@ -333,7 +248,7 @@ module _ (tree : Tree) (events : Events) (last : ℕ) (ok : Accepted tree events
       go (no row) (yes empty) = nothing (rw (ne-eqb r 0 row, eq-eqb (held-by (after tree events n) r) 0 empty) at is)
       go (no row) (no some) =
           let since = backlog r n inside earlier (pos-of-ne-zero some) in
-          let kid = own-kid tree r (pos-of-ne-zero row) inside in
+          let kid = its-parent tree (ok .sound) r (pos-of-ne-zero row) inside in
           let stepped = step (parent tree r) r (since .0) n kid (since .1) earlier (since .2) in
           let difference = rw (ne-eqb r 0 row, ne-eqb (held-by (after tree events n) r) 0 some, since .3, since .4) at is in
           let all = bytes-of (after tree events n) (parent tree r) - bytes-of (after tree events (since .0)) (parent tree r) in

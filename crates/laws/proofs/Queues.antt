@@ -1,7 +1,7 @@
 -- A class's queue and its head: what joining the queue and leaving it keep.
 -- Assumes nothing.
 use Prim.Native.Nat.{ℕ, suc, pred, _≤_, _<_}
-use mathlib.Core.Path.{_≡_, refl, _∙_, subst, sym}
+use mathlib.Core.Path.{_≡_, refl, _∙_}
 use mathlib.Core.Logic.{_≢_}
 use mathlib.Core.List.{List, [], _∷_, _++_, tail}
 use native.Mathlib.Decide.{ℕ-discrete}
@@ -13,7 +13,7 @@ use Rattle.rules.specs.Box.{Packet, Rows, Box, head, head-length, held-by, queu
 use Rattle.laws.specs.Sound.{Sound, Sender}
 use Rattle.laws.specs.Moves.{SameHead}
 use Rattle.laws.specs.Kept.{InLine, HeadOf, Kept}
-use Rattle.laws.proofs.Paths.{NextFits}
+use Rattle.laws.proofs.DeparturePath.{NextFits}
 
 -- ── in line ──
 
@@ -78,6 +78,22 @@ busy-some a k (packet ∷ rest) of has = omega arith
 
 -- ── one queue changes ──
 
+module _
+    (tree : Tree) (sound : Sound tree) (big : ℕ → ℕ) (now : ℕ) (box : Box) (kept : Kept tree big now box) (k : ℕ) (sender : Sender tree k)
+    (queue : List Packet) where
+  -- what is so of class k's new queue and of every other class's queue is so of all queues
+  pub each-queue :
+      (P : ℕ → List Packet → Type 0) → P k queue → ((j : ℕ) → Sender tree j → j ≢ k → P j (queue-of box j))
+      → (j : ℕ) → Sender tree j → P j (getD (set (box .queues) k queue) j [])
+  each-queue P new others j other = go (ℕ-discrete j k)
+    where
+      inside : k < length (box .queues)
+      inside = omega (arith, kept .queues-full, sound .few-rows, sender .inside)
+
+      go : Dec (j ≡ k) → P j (getD (set (box .queues) k queue) j [])
+      go (yes same) = rw (same, getD-set-same (box .queues) k queue [] inside) new
+      go (no apart) = rw (getD-set-other (box .queues) k j queue [] apart) (others j other apart)
+
 -- the box after an event that changes class k's queue and head, and those of no other class
 pub record OneQueue (tree : Tree) (big : ℕ → ℕ) (now : ℕ) (box : Box) (k : ℕ) (queue : List Packet) (next : Box) : Type 0 where
   pub queues : next .queues ≡ set (box .queues) k queue
@@ -87,34 +103,25 @@ pub record OneQueue (tree : Tree) (big : ℕ → ℕ) (now : ℕ) (box : Box) (k
   pub held : held-by next k ≡ length queue
   pub held-others : (j : ℕ) → Sender tree j → j ≢ k → held-by next j ≡ held-by box j
 
-module _ (tree : Tree) (sound : Sound tree) (big : ℕ → ℕ) (now : ℕ) (box : Box) (kept : Kept tree big now box) (k : ℕ) (sender : Sender tree k) (queue : List Packet) (next : Box) (one : OneQueue tree big now box k queue next) where
-  -- what is so of k's new queue and of every other queue is so of all queues
-  each-queue :
+module _
+    (tree : Tree) (sound : Sound tree) (big : ℕ → ℕ) (now : ℕ) (box : Box) (kept : Kept tree big now box) (k : ℕ) (sender : Sender tree k)
+    (queue : List Packet) (next : Box) (one : OneQueue tree big now box k queue next) where
+  all-queues :
       (P : ℕ → List Packet → Type 0) → P k queue → ((j : ℕ) → Sender tree j → j ≢ k → P j (queue-of box j))
       → (j : ℕ) → Sender tree j → P j (queue-of next j)
-  each-queue P new others j other =
-      subst (λ (queues : List (List Packet)). P j (getD queues j [])) (sym (one .queues)) (go (ℕ-discrete j k))
-    where
-      inside : k < length (box .queues)
-      inside = let full = kept .queues-full in let few = sound .few-rows in let here = sender .inside in omega arith
-
-      go : Dec (j ≡ k) → P j (getD (set (box .queues) k queue) j [])
-      go (yes same) =
-          subst (λ (i : ℕ). P i (getD (set (box .queues) k queue) i [])) (sym same)
-          (subst (P k) (sym (getD-set-same (box .queues) k queue [] inside)) new)
-      go (no apart) = subst (P j) (sym (getD-set-other (box .queues) k j queue [] apart)) (others j other apart)
+  all-queues P new others j other = rw (one .queues) (each-queue tree sound big now box kept k sender queue P new others j other)
 
   pub lines-after : (j : ℕ) → Sender tree j → InLine (suc now) (big j) 0 (queue-of next j)
   lines-after =
-      each-queue (λ j queue. InLine (suc now) (big j) 0 queue) (one .line)
+      all-queues (λ j queue. InLine (suc now) (big j) 0 queue) (one .line)
       (λ j other apart. in-line-wider now (suc now) (big j) 0 0 (queue-of box j) (omega arith) (omega arith) (kept .queues-kept j other))
 
   pub heads-after : (j : ℕ) → Sender tree j → HeadOf (next .rows) j (queue-of next j)
   heads-after =
-      each-queue (HeadOf (next .rows)) (one .first)
+      all-queues (HeadOf (next .rows)) (one .first)
       (λ j other apart. same-head-of (box .rows) (next .rows) j (queue-of box j) (one .others j other apart) (kept .heads-kept j other))
 
   pub counts-after : (j : ℕ) → Sender tree j → held-by next j ≡ length (queue-of next j)
   counts-after =
-      each-queue (λ j queue. held-by next j ≡ length queue) (one .held)
+      all-queues (λ j queue. held-by next j ≡ length queue) (one .held)
       (λ j other apart. one .held-others j other apart ∙ kept .held-sender j other)

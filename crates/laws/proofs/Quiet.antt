@@ -3,18 +3,20 @@
 -- Assumes nothing.
 use Prim.Native.Nat.{ℕ, _<_}
 use mathlib.Core.Path.{_≡_, refl, sym, _∙_, ap}
-use mathlib.Core.Bool.{Bool, true, false, cond, _&&_, not}
+use mathlib.Core.Bool.{Bool, true, false, cond}
 use mathlib.Core.List.{[], _∷_}
 use native.Mathlib.Omega.{arith}
-use lib.Dec.{eqb, ltb}
-use borrow.Author.Tests.{eqb-true, ltb-true}
-use Rattle.rules.specs.Classes.{Tree, sends, has-child}
+use lib.Dec.{eqb}
+use borrow.Author.Tests.{eqb-true}
+use Rattle.rules.specs.Classes.{Tree, sends}
 use Rattle.rules.specs.Events.{Events}
 use Rattle.rules.specs.Box.{start, finish, virtual, bytes-of, held-by}
 use Rattle.rules.specs.Steps.{after}
 use Rattle.rules.specs.Outcome.{row-report}
 use Rattle.laws.specs.Kept.{Kept}
-use Rattle.laws.specs.History.{Accepted, largest-for}
+use Rattle.laws.specs.History.{Accepted}
+use Rattle.laws.proofs.Ways.{sends-sender}
+use Rattle.laws.proofs.Largest.{parts-largest}
 use Rattle.laws.proofs.Keeping.{kept}
 
 -- leaving out a word that is zero
@@ -22,16 +24,8 @@ left-out : (test : Bool) (word : ℕ) → (test ≡ true → word ≡ 0) → con
 left-out true word none = sym (none refl)
 left-out false word none = refl
 
-first-holds : (one other : Bool) → (one && other) ≡ true → one ≡ true
-first-holds true other both = refl
-first-holds false other both = both
-
-sends-positive : (tree : Tree) (k : ℕ) → sends tree k ≡ true → 0 < k
-unfolding sends
-sends-positive tree k is = ltb-true 0 k (first-holds (ltb 0 k) (not (has-child tree k (tree .rows))) is)
-
 module _ (tree : Tree) (events : Events) (n : ℕ) (ok : Accepted tree events n) where
-  keeps : Kept tree (λ (r : ℕ). largest-for tree events r n) n (after tree events n)
+  keeps : Kept tree (parts-largest tree events n) n (after tree events n)
   keeps = kept tree events n n (omega arith) ok
 
   -- the root's tags
@@ -44,7 +38,7 @@ module _ (tree : Tree) (events : Events) (n : ℕ) (ok : Accepted tree events n)
   -- a sending class's virtual time
   pub virtual-shown : (r : ℕ) → r < tree .rows → cond (sends tree r) 0 (virtual (after tree events n .rows) r) ≡ virtual (after tree events n .rows) r
   virtual-shown r inside =
-      left-out (sends tree r) _ (λ is. keeps .sender-virtual r (record { positive = sends-positive tree r is; inside = inside; sender = is }))
+      left-out (sends tree r) _ (λ is. keeps .sender-virtual r (sends-sender tree r inside is))
 
   -- so a row's words are its plain state
   pub row-shown :

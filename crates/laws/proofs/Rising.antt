@@ -4,10 +4,8 @@ use Prim.Native.Nat.{ℕ, zero, suc, _≤_, _<_}
 use mathlib.Core.Path.{_≡_, refl, sym, _∙_, ap, subst}
 use mathlib.Core.Logic.{_≢_, _⊎_, inl, inr, ⊎-elim}
 use mathlib.Core.Bool.{Bool, true, false, false≢true}
-use native.Mathlib.Decide.{ℕ-discrete, decLe}
+use native.Mathlib.Decide.{decLe}
 use native.Mathlib.Omega.{arith}
-use borrow.Author.Tests.{eqb-true, eqb-false, not-true, not-false}
-use lib.Dec.{eqb}
 use Rattle.rules.specs.Classes.{Tree, parent, depth}
 use Rattle.rules.specs.Box.{Rows, start, finish, virtual, head, head-length, has-head}
 use Rattle.rules.specs.Steps.{next-start, new-head, chooses, up}
@@ -15,34 +13,11 @@ use Rattle.rules.specs.Promise.{within}
 use Rattle.rules.specs.declared.Why.{Why}
 use Rattle.rules.specs.declared.Why.the-variants.{Finished, Arrived}
 use Rattle.laws.specs.Sound.{Sound, Kid, Inner}
-use Rattle.laws.specs.Moves.{Full, SameRow, Still, Headed, Dropped, Pick}
-use Rattle.laws.proofs.Ways.{kid-apart, parent-is-inner, root-within, self-within, parent-within, child-within, not-below}
-use Rattle.laws.proofs.Depths.{kid-deeper, lower-kid, off-at-parent, on-at-parent, way-depth, way-higher, deeper-apart}
+use Rattle.laws.specs.Moves.{Full, SameRow, Headed, Dropped, Pick}
+use Rattle.laws.proofs.Heads.{has-true, has-false, same-row, then-same}
+use Rattle.laws.proofs.Ways.{kid-apart, parent-is-inner, root-within, nearer, self-within, parent-within, child-within, not-below}
+use Rattle.laws.proofs.Depths.{kid-deeper, lower-kid, off-at-parent, way-depth, way-higher, deeper-apart}
 use Rattle.laws.proofs.Choosing.{Nobody, Somebody, new-head-here, chooses-full, chooses-elsewhere, chooses-what}
-
--- ── unchanged rows ──
-
-pub same-row : (x : Rows) (j : ℕ) → SameRow x x j
-same-row x j = omega arith
-
-pub then-same : (x y z : Rows) (j : ℕ) → SameRow x y j → SameRow y z j → SameRow x z j
-then-same x y z j first second = omega arith
-
--- a level with all its rows unchanged
-pub still-rows : (tree : Tree) (a b : Rows) (p : ℕ) → SameRow a b p → ((j : ℕ) → Kid tree p j → SameRow a b j) → Still tree a b p
-still-rows tree a b p self kids = record { kids = λ j kid. kids j kid .kid; top = omega arith }
-
--- ── heads, as the rules test them and as the theorems have them ──
-
-pub no-head : (x : Rows) (r : ℕ) → has-head x r ≡ false → head x r ≡ 0
-unfolding has-head
-no-head x r e = eqb-true (head x r) 0 (not-false (eqb (head x r) 0) e)
-
-pub some-head : (x : Rows) (r : ℕ) → has-head x r ≡ true → head x r ≢ 0
-unfolding has-head
-some-head x r e = eqb-false (head x r) 0 (not-true (eqb (head x r) 0) e)
-
--- ── what choosing upwards leaves ──
 
 -- row p has chosen. `x` is the state before any row chose, `y` the state after all did; p's children are those of `y`
 pub data Chosen (tree : Tree) (why : Why) (x y : Rows) (p : ℕ) : Type 0 where
@@ -215,13 +190,10 @@ module _ (tree : Tree) (sound : Sound tree) (why : Why) where
 
       -- a parent on the way from r is q, or one on the way from q
       which : (p c : ℕ) → Kid tree p c → within tree c r ≡ true → (p ≡ q) ⊎ ((within tree c q ≡ true) × (depth tree p < depth tree q))
-      which p c kid on = go (ℕ-discrete c r)
-        where
-          go : Dec (c ≡ r) → (p ≡ q) ⊎ ((within tree c q ≡ true) × (depth tree p < depth tree q))
-          go (yes e) = inl (sym (kid .under) ∙ ap (parent tree) e ∙ kid-r .under)
-          go (no other) =
-              let on-q = on-at-parent tree sound q r c kid-r on other in
-              inr (on-q, way-higher tree sound q p c (inner .inside) kid on-q)
+      which p c kid on =
+          ⊎-elim (λ here. inl (sym (kid .under) ∙ ap (parent tree) (sym here) ∙ kid-r .under))
+          (λ above. let on-q = rw (kid-r .under) at above in inr (on-q, way-higher tree sound q p c (inner .inside) kid on-q))
+          (nearer tree sound c r (kid-r .positive) (kid-r .inside) on)
 
       chose-q : Chosen tree why x y q
       chose-q =
@@ -258,8 +230,8 @@ module _ (tree : Tree) (sound : Sound tree) (why : Why) where
           (b : Bool) → has-head x (parent tree r) ≡ b
           → Risen tree why (parent tree r) (chooses tree why (parent tree r) x) (up d tree why (parent tree r) (chooses tree why (parent tree r) x))
           → Risen tree why r x (elim b [ true ↦ x | false ↦ up d tree why (parent tree r) (chooses tree why (parent tree r) x) ])
-      go true e risen = stays r (parent tree r) x full kid (some-head x (parent tree r) e)
-      go false e risen = goes-up r (parent tree r) x _ full kid (no-head x (parent tree r) e) risen
+      go true e risen = stays r (parent tree r) x full kid (has-true x (parent tree r) e)
+      go false e risen = goes-up r (parent tree r) x _ full kid (has-false x (parent tree r) e) risen
 
   -- the root is charged nothing
   pub root-tags :

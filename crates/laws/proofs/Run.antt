@@ -1,9 +1,9 @@
 -- The theorems on a run, said of the lent slices that it leaves: whatever was lent, where the answer's number is 0.
 -- Assumes nothing.
-use Prim.Native.Nat.{ℕ, zero, suc, _+_, _*_, _-_, _≤_, _<_}
-use mathlib.Core.Path.{_≡_, refl, sym, _∙_, ap, subst}
+use Prim.Native.Nat.{ℕ, _+_, _*_, _≤_, _<_}
+use mathlib.Core.Path.{_≡_, sym, _∙_, ap, subst}
 use mathlib.Core.Logic.{_≢_}
-use mathlib.Core.Bool.{Bool, true, false, cond}
+use mathlib.Core.Bool.{cond}
 use mathlib.Core.List.{List}
 use native.Mathlib.Omega.{arith}
 use lib.ListN.{length, getD, take}
@@ -11,14 +11,13 @@ use lib.IntN.{pos}
 use Rattle.rules.specs.Limits.{report-words, whole}
 use Rattle.rules.specs.Classes.{Tree, tree-of}
 use Rattle.rules.specs.Events.{Events, count}
-use Rattle.rules.specs.Box.{Box, bytes-of, held-by, has-head}
-use Rattle.rules.specs.Steps.{after}
+use Rattle.rules.specs.Box.{has-head}
 use Rattle.rules.specs.Outcome.{Lent, outcome, row-report, room-of}
-use Rattle.rules.specs.Promise.{finish-count, arrived, largest, packets-for, bytes-for, finished, finished-in, holds, Backlogged, Ratio, number}
+use Rattle.rules.specs.Promise.{finish-count, arrived, largest, packets-for, bytes-for, finished, finished-in, Backlogged, number}
 use Rattle.laws.specs.Sound.{Sender}
 use Rattle.laws.specs.History.{Accepted, arrivals-of, only-for}
 use Rattle.laws.proofs.Trees.{accepted}
-use Rattle.laws.proofs.History.{bytes-counted, held-counted, holds-held, order-length, first-in-first-out, once}
+use Rattle.laws.proofs.History.{bytes-counted, held-counted, order-length, first-in-first-out, once}
 use Rattle.laws.proofs.Promise.{promised, lag-bound}
 use Rattle.laws.proofs.Results.{not-refused, last, count-is, order-is, word-is, lag-is}
 

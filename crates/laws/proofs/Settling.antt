@@ -1,21 +1,20 @@
 -- Heads agree along the tree after an event, where they did before it: from what the event does at each level and to each
 -- sending class.
 -- Assumes nothing.
-use Prim.Native.Nat.{ℕ, zero, suc, _+_, _<_}
-use mathlib.Core.Path.{_≡_, refl, sym, _∙_, ap, subst}
-use mathlib.Core.Logic.{_≢_, _⊎_, inl, inr}
-use mathlib.Core.Bool.{Bool, true, false, false≢true}
+use Prim.Native.Nat.{ℕ, _+_, _<_}
+use mathlib.Core.Path.{_≡_, sym, _∙_, ap, subst}
+use mathlib.Core.Logic.{_≢_, _⊎_, inl, inr, ⊎-elim}
+use mathlib.Core.Bool.{true}
 use native.Mathlib.Decide.{ℕ-discrete}
 use native.Mathlib.Omega.{arith}
-use Rattle.rules.specs.Limits.{most-depth}
 use Rattle.rules.specs.Shares.{charge}
-use Rattle.rules.specs.Classes.{Tree, parent, depth, share, sends}
+use Rattle.rules.specs.Classes.{Tree, parent, share}
 use Rattle.rules.specs.Box.{Rows, start, finish, head, head-length, head-class}
 use Rattle.rules.specs.Promise.{within}
 use Rattle.laws.specs.Sound.{Sound, Kid, Inner, Sender}
 use Rattle.laws.specs.Moves.{SameHead, Settled, SameKid, SameTop, Still, Others, Headed, Dropped, Pick}
-use Rattle.laws.proofs.Ways.{its-parent, parent-is-inner, root-inner, self-within, parent-within, sender-alone}
-use Rattle.laws.proofs.Depths.{kid-deeper}
+use Rattle.laws.proofs.Ways.{its-parent, parent-is-inner, self-within, parent-within, sender-alone}
+use Rattle.laws.proofs.Depths.{sender-or-inner, from-children}
 use Rattle.laws.proofs.Rising.{taken-head}
 
 -- what an event does at p's level, c being the child that moves
@@ -42,18 +41,6 @@ record Carries (tree : Tree) (b : Rows) (r : ℕ) : Type 0 where
   class : Sender tree (head-class b r)
   part : within tree r (head-class b r) ≡ true
   some : 0 < head-length b r
-
--- a row is inner or a sending class
-pub which-row : (tree : Tree) → Sound tree → (r : ℕ) → r < tree .rows → Inner tree r ⊎ Sender tree r
-which-row tree sound r inside = go (sends tree r) refl
-  where
-    go : (b : Bool) → sends tree r ≡ b → Inner tree r ⊎ Sender tree r
-    go false e = inl (record { inside = inside; no-sender = e })
-    go true e = inr (record { positive = positive (ℕ-discrete r 0); inside = inside; sender = e })
-      where
-        positive : Dec (r ≡ 0) → 0 < r
-        positive (yes root) = absurd (false≢true (sym (root-inner tree sound .no-sender) ∙ ap (sends tree) (sym root) ∙ e))
-        positive (no other) = omega arith
 
 module _ (tree : Tree) (sound : Sound tree) (a b : Rows) (settled : Settled tree a) where
   -- a sending class that the event leaves alone
@@ -99,47 +86,44 @@ module _ (tree : Tree) (sound : Sound tree) (a b : Rows) (settled : Settled tree
     child-of p inner (empties c others dropped no-head no-length all) has = absurd (omega arith)
 
     -- a head is a child's head, and so on down to a sending class
-    carries : (n r : ℕ) → r < tree .rows → most-depth < depth tree r + n → head b r ≢ 0 → Carries tree b r
-    carries zero r inside deep has = let h = sound .shallow r inside in absurd (omega arith)
-    carries (suc n) r inside deep has = go (which-row tree sound r inside) (carries n)
-      where
-        go :
-            Inner tree r ⊎ Sender tree r → ((t : ℕ) → t < tree .rows → most-depth < depth tree t + n → head b t ≢ 0 → Carries tree b t)
-            → Carries tree b r
-        go (inl inner) lower =
-            let f = child-of r inner (moves r inner) has in
-            let e = f .2 in
-            let deeper = kid-deeper tree sound r (f .0) (f .1) in
-            let found = lower (f .0) (f .1 .inside) (omega arith) (omega arith) in
-            let same = e .class-same in
-            let class : Sender tree (head-class b r) = subst (λ (k : ℕ). Sender tree k) same (found .class) in
-            record {
-              class = class;
-              part =
-                  parent-within tree sound r (f .0) (head-class b r) (class .inside) (f .1)
-                  (subst (λ (k : ℕ). within tree (f .0) k ≡ true) same (found .part));
-              some = let h = found .some in omega arith;
-            }
-        go (inr sender) lower =
-            let e = own r sender .class has in
-            record {
-              class = subst (λ (k : ℕ). Sender tree k) (sym e) sender;
-              part = subst (λ (k : ℕ). within tree r k ≡ true) (sym e) (self-within tree sound r);
-              some = own r sender .some has;
-            }
-
     carried : (r : ℕ) → r < tree .rows → head b r ≢ 0 → Carries tree b r
-    carried r inside has = carries (suc most-depth) r inside (omega arith) has
+    carried = from-children tree sound (λ r. head b r ≢ 0 → Carries tree b r) next
+      where
+        next : (r : ℕ) → r < tree .rows → ((j : ℕ) → Kid tree r j → head b j ≢ 0 → Carries tree b j) → head b r ≢ 0 → Carries tree b r
+        next r inside below has = ⊎-elim sending from (sender-or-inner tree sound r inside)
+          where
+            sending : Sender tree r → Carries tree b r
+            sending sender =
+                let e = own r sender .class has in
+                record {
+                  class = subst (λ (k : ℕ). Sender tree k) (sym e) sender;
+                  part = subst (λ (k : ℕ). within tree r k ≡ true) (sym e) (self-within tree sound r);
+                  some = own r sender .some has;
+                }
 
-    nothing : (r : ℕ) → r < tree .rows → Inner tree r ⊎ Sender tree r → head b r ≡ 0 → head-length b r ≡ 0
-    nothing r inside (inl inner) idle = go (moves r inner)
+            from : Inner tree r → Carries tree b r
+            from inner =
+                let (t, kid, e) = child-of r inner (moves r inner) has in
+                let found = below t kid (omega arith) in
+                let same = e .class-same in
+                let class : Sender tree (head-class b r) = subst (λ (k : ℕ). Sender tree k) same (found .class) in
+                record {
+                  class = class;
+                  part =
+                      parent-within tree sound r t (head-class b r) (class .inside) kid
+                      (subst (λ (k : ℕ). within tree t k ≡ true) same (found .part));
+                  some = let h = found .some in omega arith;
+                }
+
+    nothing : (r : ℕ) → r < tree .rows → Sender tree r ⊎ Inner tree r → head b r ≡ 0 → head-length b r ≡ 0
+    nothing r inside (inl sender) idle = own r sender .none idle
+    nothing r inside (inr inner) idle = go (moves r inner)
       where
         go : Move tree a b r → head-length b r ≡ 0
         go (rests still) = let e = still .top in let f = settled .no-length r inside (omega arith) in omega arith
         go (joins c s others none headed had top) = absurd (omega arith)
         go (takes c s k others move pick) = absurd (taken-head tree a b r k pick idle)
         go (empties c others dropped no-head no-length all) = no-length
-    nothing r inside (inr sender) idle = own r sender .none idle
 
     tagged-same : (p r : ℕ) → Kid tree p r → SameKid a b r → head b r ≢ 0 → Tagged tree b r
     tagged-same p r kid same has =
@@ -167,7 +151,7 @@ module _ (tree : Tree) (sound : Sound tree) (a b : Rows) (settled : Settled tree
           from-child = λ p inner has. child-of p inner (moves p inner) has;
           of-sender = λ r inside has. carried r inside has .class;
           of-part = λ r inside has. carried r inside has .part;
-          no-length = λ r inside idle. nothing r inside (which-row tree sound r inside) idle;
+          no-length = λ r inside idle. nothing r inside (sender-or-inner tree sound r inside) idle;
           some-length = λ r inside has. carried r inside has .some;
           tagged =
               λ r positive inside has.

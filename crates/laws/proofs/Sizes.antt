@@ -2,31 +2,36 @@
 -- Assumes nothing.
 use Prim.Native.Nat.{ℕ, zero, suc, _+_, _*_, _-_, _≤_, _<_, max}
 use mathlib.Core.Path.{_≡_, refl, subst}
-use mathlib.Core.Logic.{_≢_, _⊎_, inl, inr}
-use mathlib.Core.Bool.{Bool, true, false, cond}
-use mathlib.Core.List.{List, [], _∷_, tail}
+use mathlib.Core.Logic.{_≢_, _⊎_, inl, inr, ⊎-elim}
+use mathlib.Core.Bool.{Bool, true, false}
 use native.Mathlib.Decide.{ℕ-discrete, decLe}
 use native.Mathlib.Nat.{le-trans, mul-suc, mul-le-mul-left, mul-le-mul-right}
 use native.Mathlib.Omega.{arith}
-use lib.Dec.{T, eqb}
-use lib.ListN.{length, getD, getD-replicate}
-use Rattle.rules.specs.Limits.{most-rows, scale, whole, most-bytes}
+use lib.Dec.{T}
+use lib.ListN.{getD}
+use Rattle.rules.specs.Limits.{scale, whole, most-bytes}
 use Rattle.rules.specs.Shares.{allowed, charge}
-use Rattle.rules.specs.Classes.{Tree, parent, share, zeros, row-of, sends}
-use Rattle.rules.specs.Events.{Events}
-use Rattle.rules.specs.Box.{Packet, Box, Rows, fresh, start, finish, virtual, head, head-length, head-class, bytes-of, held-by, queue-of}
-use Rattle.rules.specs.Steps.{along, arrival, departure, after}
+use Rattle.rules.specs.Classes.{Tree, parent, share}
+use Rattle.rules.specs.Events.{Events, length-word}
+use Rattle.rules.specs.Box.{Box, Rows, fresh, start, finish, virtual, head, head-length, bytes-of, held-by}
+use Rattle.rules.specs.Steps.{arrival, departure, after}
 use Rattle.rules.specs.Promise.{within}
 use Rattle.laws.specs.Sound.{Sound, Kid, Inner, Sender}
 use Rattle.laws.specs.Moves.{Others, Still, Headed, Dropped, Pick, Arriving, joins, opens, Departing, renews, passes-on, empties, ArrivalAt, DepartureAt}
-use Rattle.laws.specs.Kept.{Kept, InLine}
+use Rattle.laws.specs.Kept.{Kept}
 use Rattle.laws.specs.History.{Accepted}
 use Rattle.laws.specs.Counts.{Below}
-use Rattle.laws.proofs.Ways.{its-parent, parent-is-inner, root-inner, along-at}
+use Rattle.laws.proofs.Tests.{cond-most, cond-least}
+use Rattle.laws.proofs.Ways.{its-parent, parent-is-inner}
+use Rattle.laws.proofs.Depths.{sender-or-inner}
 use Rattle.laws.proofs.Trees.{share-positive, share-whole, charge-close}
-use Rattle.laws.proofs.Turns.{fewer, turn}
-use Rattle.laws.proofs.Paths.{NextFits, arrives-at, arrives-quiet, departs-on, departs-off, departs-quiet}
-use Rattle.laws.proofs.Keeping.{fresh-kept, arrival-kept, departure-kept}
+use Rattle.laws.proofs.ArrivalPath.{arrives-quiet}
+use Rattle.laws.proofs.DeparturePath.{departs-quiet}
+use Rattle.laws.proofs.Turns.{class-at, fewer, turn}
+use Rattle.laws.proofs.Outset.{zeros-at}
+use Rattle.laws.proofs.OneEvent.{line-class, left, arrival-at, arrival-held, arrival-bytes, arrival-since, arrival-parent-since, mark-most}
+use Rattle.laws.proofs.OneEvent.{left-next, departure-on, departure-off, departure-bytes}
+use Rattle.laws.proofs.Keeping.{arrival-kept, departure-kept, departure-fewer, kept-under}
 
 -- a packet costs a class most at the least share
 charge-below : (w l most : ℕ) → T (allowed w) → l ≤ most → charge l w ≤ scale * most
@@ -127,31 +132,22 @@ module _ (tree : Tree) (sound : Sound tree) (a b : Rows) (most m : ℕ) where
             let kid = its-parent tree sound (suc r) (omega arith) inside in
             levels (parent tree (suc r)) (parent-is-inner tree sound (parent tree (suc r)) (suc r) kid) .0 (suc r) kid
 
-        either : (r : ℕ) (is : Bool) → sends tree (suc r) ≡ is → suc r < tree .rows → virtual b (suc r) ≤ m + scale * most
-        either r true e inside =
-            omega (arith, below .virtuals-below (suc r) inside, senders (suc r) (record { positive = omega arith; inside = inside; sender = e }))
-        either r false e inside = levels (suc r) (record { inside = inside; no-sender = e }) .1
-
         virtuals : (r : ℕ) → r < tree .rows → virtual b r ≤ m + scale * most
-        virtuals zero inside = levels 0 (root-inner tree sound) .1
-        virtuals (suc r) inside = either r (sends tree (suc r)) refl inside
-
--- what is left of a queue in line begins with a packet that has some bytes
-next-fits : (now most least : ℕ) (queue : List Packet) → InLine now most least queue → NextFits (tail queue)
-unfolding InLine
-next-fits now most least [] line = tt
-next-fits now most least (packet ∷ []) line = tt
-next-fits now most least (packet ∷ next ∷ later) line = line .4 .2
+        virtuals r inside =
+            ⊎-elim (λ sender. omega (arith, below .virtuals-below r inside, senders r sender)) (λ inner. levels r inner .1)
+            (sender-or-inner tree sound r inside)
 
 -- one event raises no tag by more than its charge for a packet of `most` bytes at the least share
-module _ (tree : Tree) (sound : Sound tree) (big : ℕ → ℕ) (wider : (j : ℕ) → 0 < j → j < tree .rows → big j ≤ big (parent tree j)) (most : ℕ) (bound : (r : ℕ) → r < tree .rows → big r ≤ most) where
+module _
+    (tree : Tree) (sound : Sound tree) (big : ℕ → ℕ) (wider : (j : ℕ) → 0 < j → j < tree .rows → big j ≤ big (parent tree j))
+    (most : ℕ) (bound : (r : ℕ) → r < tree .rows → big r ≤ most) where
   module _ (now : ℕ) (box : Box) (kept : Kept tree big now box) (m : ℕ) (below : Below tree (box .rows) m) where
     pub arrival-below : (k length : ℕ) → Sender tree k → 0 < length → length ≤ big k → Below tree (arrival tree now k length box .rows) (m + scale * most)
     unfolding arrival
     arrival-below k length sender some small =
         let quiet = arrives-quiet tree sound (box .rows) (kept .rows-full) (kept .settled) now k length sender some in
         levels-below tree sound (box .rows) (arrival tree now k length box .rows) most m below heads
-        (λ p inner. go p (inner .inside) (arrives-at tree sound (box .rows) (kept .rows-full) (kept .settled) now k length sender some p inner))
+        (λ p inner. go p (inner .inside) (arrival-at tree sound big now box kept k length sender some p inner))
         (quiet .0) (quiet .1) (quiet .2)
       where
         next : Rows
@@ -167,63 +163,24 @@ module _ (tree : Tree) (sound : Sound tree) (big : ℕ → ℕ) (wider : (j : �
     pub departure-below : head (box .rows) 0 ≢ 0 → Below tree (departure tree box .rows) (m + scale * most)
     unfolding departure
     departure-below busy =
-        let quiet = departs-quiet tree sound (box .rows) (kept .rows-full) (kept .settled) busy later fits in
-        levels-below tree sound (box .rows) next most m below heads (λ p inner. go p inner (within tree p k) refl) (quiet .0) (quiet .1) (quiet .2)
+        let quiet = departs-quiet tree sound (box .rows) (kept .rows-full) (kept .settled) busy (left box) (left-next tree sound big now box kept busy) in
+        levels-below tree sound (box .rows) next most m below heads (λ p inner. go p inner (within tree p (line-class box)) refl)
+        (quiet .0) (quiet .1) (quiet .2)
       where
-        k : ℕ
-        k = head-class (box .rows) 0
-
-        later : List Packet
-        later = tail (queue-of box k)
-
         next : Rows
         next = departure tree box .rows
-
-        fits : NextFits later
-        fits = next-fits now (big k) 0 (queue-of box k) (kept .queues-kept k (kept .settled .of-sender 0 (sound .some-rows) busy))
 
         heads : (r : ℕ) → r < tree .rows → head-length next r ≤ most
         heads r inside = omega (arith, departure-kept tree sound big wider now box kept busy .heads-small r inside, bound r inside)
 
-        go : (p : ℕ) → Inner tree p → (on : Bool) → within tree p k ≡ on → LevelBelow tree sound (box .rows) next most m p
+        go : (p : ℕ) → Inner tree p → (on : Bool) → within tree p (line-class box) ≡ on → LevelBelow tree sound (box .rows) next most m p
         go p inner true on =
-            let at = departs-on tree sound (box .rows) (kept .rows-full) (kept .settled) busy later fits p inner on in
-            departure-level tree sound (box .rows) next most m below heads k p (at .0) (inner .inside) (at .1)
+            let at = departure-on tree sound big now box kept busy p inner on in
+            departure-level tree sound (box .rows) next most m below heads (line-class box) p (at .0) (inner .inside) (at .1)
         go p inner false off =
-            still-below tree sound (box .rows) next most m below heads p (inner .inside)
-            (departs-off tree sound (box .rows) (kept .rows-full) (kept .settled) busy later fits p inner off)
+            still-below tree sound (box .rows) next most m below heads p (inner .inside) (departure-off tree sound big now box kept busy p inner off)
 
 -- ── a run ──
-
-cond-most : (test : Bool) (x y z : ℕ) → x ≤ z → y ≤ z → cond test x y ≤ z
-cond-most true x y z one other = one
-cond-most false x y z one other = other
-
-cond-least : (test : Bool) (x y z : ℕ) → z ≤ x → z ≤ y → z ≤ cond test x y
-cond-least true x y z one other = one
-cond-least false x y z one other = other
-
-module _ (tree : Tree) (sound : Sound tree) (r : ℕ) (inside : r < tree .rows) where
-  zero-at : getD zeros r 0 ≡ 0
-  unfolding zeros
-  zero-at = getD-replicate most-rows r 0 0 (omega (arith, sound .few-rows))
-
-  -- a bound on row r's entry in a list, after a change along the way from k
-  module _ (f : ℕ → ℕ → ℕ) (k : ℕ) (k-inside : k < tree .rows) (xs : List ℕ) (full : length xs ≡ most-rows) (z : ℕ) where
-    along-most : f r (getD xs r 0) ≤ z → getD xs r 0 ≤ z → getD (along tree f k xs) r 0 ≤ z
-    along-most changed same =
-        rw (along-at tree sound f k r xs k-inside inside full) (cond-most (within tree r k) (f r (getD xs r 0)) (getD xs r 0) z changed same)
-
-    along-least : z ≤ f r (getD xs r 0) → z ≤ getD xs r 0 → z ≤ getD (along tree f k xs) r 0
-    along-least changed same =
-        rw (along-at tree sound f k r xs k-inside inside full) (cond-least (within tree r k) (f r (getD xs r 0)) (getD xs r 0) z changed same)
-
-  -- where the rows that hold nothing begin to count anew
-  since-most :
-      (box : Box) (count : ℕ → ℕ) (k : ℕ) → k < tree .rows → (xs : List ℕ) → length xs ≡ most-rows → getD xs r 0 ≤ count r
-      → getD (along tree (λ j n. cond (eqb (held-by box j) 0) (count j) n) k xs) r 0 ≤ count r
-  since-most box count k k-inside xs full before =
-      along-most _ k k-inside xs full (count r) (cond-most (eqb (held-by box r) 0) (count r) (getD xs r 0) (count r) (omega arith) before) before
 
 -- no packet of an accepted event has more
 abbrev few : ℕ → ℕ
@@ -233,36 +190,19 @@ module _ (tree : Tree) (events : Events) where
   earlier : (n : ℕ) → Accepted tree events (suc n) → Accepted tree events n
   earlier n ok = fewer tree events n (suc n) (omega arith) ok
 
-  -- the last event as the bounds see it
-  next :
-      (n : ℕ) → Accepted tree events (suc n) → (P : Box → Type 0)
-      → ((k length : ℕ) → Sender tree k → 0 < length → length ≤ most-bytes → P (arrival tree n k length (after tree events n)))
-      → (head (after tree events n .rows) 0 ≢ 0 → P (departure tree (after tree events n))) → P (after tree events (suc n))
-  next n ok P arriving departing =
-      turn tree events n ok P (λ class length is fits. arriving (row-of tree class) length (fits .sender) (fits .some-bytes) (fits .few-bytes))
-      (λ is busy. departing busy)
-
   few-wider : (j : ℕ) → 0 < j → j < tree .rows → few j ≤ few (parent tree j)
   few-wider j positive inside = omega arith
 
-  few-bound : (r : ℕ) → r < tree .rows → few r ≤ most-bytes
-  few-bound r inside = omega arith
-
   small-kept : (n : ℕ) → Accepted tree events n → Kept tree few n (after tree events n)
-  unfolding after
-  small-kept zero ok = fresh-kept tree (ok .sound) few few-wider
-  small-kept (suc n) ok =
-      let before = small-kept n (earlier n ok) in
-      next n ok (Kept tree few (suc n)) (arrival-kept tree (ok .sound) few few-wider n (after tree events n) before)
-      (departure-kept tree (ok .sound) few few-wider n (after tree events n) before)
+  small-kept n ok = kept-under tree events n ok few few-wider (λ i before fits. fits .few-bytes) n (omega arith)
 
   pub tags-below : (n : ℕ) → Accepted tree events n → Below tree (after tree events n .rows) (n * (scale * most-bytes))
   unfolding after fresh
   tags-below zero ok =
       record {
-        starts-below = λ r inside. omega (arith, zero-at tree (ok .sound) r inside);
-        finishes-below = λ r inside. omega (arith, zero-at tree (ok .sound) r inside);
-        virtuals-below = λ r inside. omega (arith, zero-at tree (ok .sound) r inside);
+        starts-below = λ r inside. omega (arith, zeros-at r);
+        finishes-below = λ r inside. omega (arith, zeros-at r);
+        virtuals-below = λ r inside. omega (arith, zeros-at r);
       }
   tags-below (suc n) ok =
       let m = n * (scale * most-bytes) in
@@ -270,35 +210,37 @@ module _ (tree : Tree) (events : Events) where
       let keeps = small-kept n (earlier n ok) in
       let below = tags-below n (earlier n ok) in
       subst (Below tree (after tree events (suc n) .rows)) (omega arith)
-      (next n ok (λ (box : Box). Below tree (box .rows) (m + scale * most-bytes))
-      (arrival-below tree (ok .sound) few few-wider most-bytes few-bound n box keeps m below)
-      (departure-below tree (ok .sound) few few-wider most-bytes few-bound n box keeps m below))
+      (turn tree events (suc n) ok n (omega arith) (λ (box : Box). Below tree (box .rows) (m + scale * most-bytes))
+      (λ is fits. arrival-below tree (ok .sound) few few-wider most-bytes (λ r inside. omega arith) n box keeps m below _ _ (fits .sender) (fits .some-bytes) (fits .few-bytes))
+      (λ is none busy. departure-below tree (ok .sound) few few-wider most-bytes (λ r inside. omega arith) n box keeps m below busy))
 
   pub heads-below : (n r : ℕ) → Accepted tree events n → r < tree .rows → head-length (after tree events n .rows) r ≤ most-bytes
   heads-below n r ok inside = small-kept n ok .heads-small r inside
 
-  -- the class of the packet on the line is a row
-  line-inside : (n : ℕ) → Accepted tree events n → head (after tree events n .rows) 0 ≢ 0 → head-class (after tree events n .rows) 0 < tree .rows
-  line-inside n ok busy = small-kept n ok .settled .of-sender 0 (ok .sound .some-rows) busy .inside
-
   pub bytes-below : (n r : ℕ) → Accepted tree events n → r < tree .rows → bytes-of (after tree events n) r ≤ n * most-bytes
-  unfolding after fresh arrival departure
-  bytes-below zero r ok inside = omega (arith, zero-at tree (ok .sound) r inside)
+  unfolding after fresh
+  bytes-below zero r ok inside = omega (arith, zeros-at r)
   bytes-below (suc n) r ok inside =
+      let box = after tree events n in
+      let keeps = small-kept n (earlier n ok) in
       let before = bytes-below n r (earlier n ok) inside in
       let small = heads-below n 0 (earlier n ok) (ok .sound .some-rows) in
-      next n ok (λ (box : Box). bytes-of box r ≤ suc n * most-bytes) (λ k length sender some small. omega arith)
-      (λ busy. along-most tree (ok .sound) r inside _ _ (line-inside n (earlier n ok) busy) _ (small-kept n (earlier n ok) .bytes-full) _ (omega arith) (omega arith))
+      turn tree events (suc n) ok n (omega arith) (λ (box : Box). bytes-of box r ≤ suc n * most-bytes)
+      (λ is fits. omega (arith, arrival-bytes tree (ok .sound) few n box keeps (class-at tree events n) (length-word events n) (fits .sender) r))
+      (λ is none busy. rw (departure-bytes tree (ok .sound) few n box keeps busy r inside)
+      (cond-most (within tree r (line-class box)) _ _ _ (omega arith) (omega arith)))
 
   pub held-below : (n r : ℕ) → Accepted tree events n → r < tree .rows → held-by (after tree events n) r ≤ n
-  unfolding after fresh arrival departure
-  held-below zero r ok inside = omega (arith, zero-at tree (ok .sound) r inside)
+  unfolding after fresh
+  held-below zero r ok inside = omega (arith, zeros-at r)
   held-below (suc n) r ok inside =
+      let box = after tree events n in
+      let keeps = small-kept n (earlier n ok) in
       let before = held-below n r (earlier n ok) inside in
-      let full = small-kept n (earlier n ok) .held-full in
-      next n ok (λ (box : Box). held-by box r ≤ suc n)
-      (λ k length sender some small. along-most tree (ok .sound) r inside _ _ (sender .inside) _ full _ (omega arith) (omega arith))
-      (λ busy. along-most tree (ok .sound) r inside _ _ (line-inside n (earlier n ok) busy) _ full _ (omega arith) (omega arith))
+      turn tree events (suc n) ok n (omega arith) (λ (box : Box). held-by box r ≤ suc n)
+      (λ is fits. rw (arrival-held tree (ok .sound) few n box keeps (class-at tree events n) (length-word events n) (fits .sender) r inside)
+      (cond-most (within tree r (class-at tree events n)) _ _ _ (omega arith) (omega arith)))
+      (λ is none busy. omega (arith, departure-fewer tree (ok .sound) few few-wider n box keeps busy r inside))
 
   -- a backlog's byte counts are at most those of now
   pub since-below : (n r : ℕ) → Accepted tree events n → r < tree .rows → getD (after tree events n .since) r 0 ≤ bytes-of (after tree events n) r
@@ -308,24 +250,26 @@ module _ (tree : Tree) (events : Events) where
       let box = after tree events n in
       let keeps = small-kept n (earlier n ok) in
       let before = since-below n r (earlier n ok) inside in
-      next n ok (λ (box : Box). getD (box .since) r 0 ≤ bytes-of box r)
-      (λ k length sender some small. since-most tree (ok .sound) r inside box (λ j. bytes-of box j) k (sender .inside) (box .since) (keeps .since-full) before)
-      (λ busy. along-least tree (ok .sound) r inside _ _ (line-inside n (earlier n ok) busy) _ (keeps .bytes-full) _ (omega arith) before)
+      turn tree events (suc n) ok n (omega arith) (λ (box : Box). getD (box .since) r 0 ≤ bytes-of box r)
+      (λ is fits. rw (arrival-since tree (ok .sound) few n box keeps (class-at tree events n) (length-word events n) (fits .sender) r inside)
+      (mark-most (within tree r (class-at tree events n)) (held-by box r) (bytes-of box r) (getD (box .since) r 0) before))
+      (λ is none busy. rw (departure-bytes tree (ok .sound) few n box keeps busy r inside)
+      (cond-least (within tree r (line-class box)) _ _ _ (omega arith) before))
 
   pub parent-since-below :
       (n r : ℕ) → Accepted tree events n → 0 < r → r < tree .rows
       → getD (after tree events n .parent-since) r 0 ≤ bytes-of (after tree events n) (parent tree r)
   unfolding after fresh arrival departure
-  parent-since-below zero r ok positive inside = omega (arith, zero-at tree (ok .sound) r inside)
+  parent-since-below zero r ok positive inside = omega (arith, zeros-at r)
   parent-since-below (suc n) r ok positive inside =
       let box = after tree events n in
       let keeps = small-kept n (earlier n ok) in
       let before = parent-since-below n r (earlier n ok) positive inside in
-      let above = ok .sound .parent-row r positive inside in
-      next n ok (λ (box : Box). getD (box .parent-since) r 0 ≤ bytes-of box (parent tree r))
-      (λ k length sender some small.
-      since-most tree (ok .sound) r inside box (λ j. bytes-of box (parent tree j)) k (sender .inside) (box .parent-since) (keeps .parent-since-full) before)
-      (λ busy. along-least tree (ok .sound) (parent tree r) above _ _ (line-inside n (earlier n ok) busy) _ (keeps .bytes-full) _ (omega arith) before)
+      turn tree events (suc n) ok n (omega arith) (λ (box : Box). getD (box .parent-since) r 0 ≤ bytes-of box (parent tree r))
+      (λ is fits. rw (arrival-parent-since tree (ok .sound) few n box keeps (class-at tree events n) (length-word events n) (fits .sender) r inside)
+      (mark-most (within tree r (class-at tree events n)) (held-by box r) (bytes-of box (parent tree r)) (getD (box .parent-since) r 0) before))
+      (λ is none busy. rw (departure-bytes tree (ok .sound) few n box keeps busy (parent tree r) (ok .sound .parent-row r positive inside))
+      (cond-least (within tree (parent tree r) (line-class box)) _ _ _ (omega arith) before))
 
   -- so the two products of a lag are small
   pub lag-terms-below :

@@ -1,140 +1,121 @@
--- A run event by event: what each event is, what it does to the counts of bytes and packets, and what a stretch of events finishes.
+-- A stretch of a run: the paces while a row holds packets, where a backlog begins, and what the stretch finishes.
 -- Assumes nothing.
-use Prim.Native.Nat.{ℕ, suc, pred, _+_, _-_, _≤_, _<_}
+use Prim.Native.Nat.{ℕ, suc, _+_, _-_, _≤_, _<_}
 use mathlib.Core.Path.{_≡_, refl, sym, _∙_, ap}
 use mathlib.Core.Logic.{_≢_}
-use mathlib.Core.Bool.{Bool, true, false, cond}
 use mathlib.Core.List.{List, [], _∷_, _++_}
 use native.Mathlib.Decide.{le-ind}
-use native.Mathlib.Nat.{pred-le, le-refl}
 use native.Mathlib.Omega.{arith}
-use lib.Dec.{eqb}
-use lib.ListN.{length, getD, take, drop}
+use lib.ListN.{getD, take, drop}
 use lib.Seq.{take-add}
-use borrow.Author.Tests.{eqb-false, not-true, eq-eqb, ne-eqb}
-use Rattle.rules.specs.declared.Event.{Event}
-use Rattle.rules.specs.declared.Event.the-variants.{Arrival, Finish}
-use Rattle.rules.specs.Classes.{Tree, parent, row-of}
-use Rattle.rules.specs.Events.{Events, length-word, event}
-use Rattle.rules.specs.Box.{Box, Rows, head, head-class, has-head, bytes-of, held-by}
-use Rattle.rules.specs.Steps.{arrival, departure, step, after}
-use Rattle.rules.specs.Refusals.{meeting-refused, event-refused}
+use Rattle.rules.specs.Classes.{Tree, parent}
+use Rattle.rules.specs.Events.{Events, length-word}
+use Rattle.rules.specs.Box.{Box, head, bytes-of, held-by}
+use Rattle.rules.specs.Steps.{departure, after}
 use Rattle.rules.specs.Promise.{within, finish-count, bytes-for, finished, finished-in}
-use Rattle.laws.specs.Sound.{Sound, Sender}
+use Rattle.laws.specs.Sound.{Kid}
 use Rattle.laws.specs.Kept.{Kept}
 use Rattle.laws.specs.History.{Accepted}
-use Rattle.laws.proofs.Ways.{along-at}
-use Rattle.laws.proofs.Trees.{arrival-fits, finish-fits}
+use Rattle.laws.specs.Counts.{OwnPace, WholePace, Paced}
+use Rattle.laws.proofs.Ways.{parent-is-inner}
+use Rattle.laws.proofs.Turns.{class-at, turn}
+use Rattle.laws.proofs.Largest.{parts-largest, accepted-wider}
+use Rattle.laws.proofs.OneEvent.{arrival-held, arrival-bytes, arrival-since, arrival-parent-since, mark-stays, mark-set}
+use Rattle.laws.proofs.Keeping.{holds-head, departure-fewer, kept}
 use Rattle.laws.proofs.History.{bytes-counted}
+use Rattle.laws.proofs.Pace.{arrival-paced, departure-paced}
 
--- ── what an event is ──
+-- row r holds a packet at the moment m and after each of the events m .. n - 1
+abbrev pub Keeps : Tree → Events → ℕ → ℕ → ℕ → Type 0
+Keeps tree events r m n = (i : ℕ) → m ≤ i → i ≤ n → 0 < held-by (after tree events i) r
 
-has-head-true : (a : Rows) (r : ℕ) → has-head a r ≡ true → head a r ≢ 0
-unfolding has-head
-has-head-true a r is = eqb-false (head a r) 0 (not-true (eqb (head a r) 0) is)
-
--- the event at place i takes the box to the next one: an arrival for a sending class, or a finish of what the line has
-pub data Happens (tree : Tree) (i : ℕ) (box next : Box) : Type 0 where
-  comes : (k length : ℕ) → Sender tree k → 0 < length → next ≡ arrival tree i k length box → Happens tree i box next
-  goes : head (box .rows) 0 ≢ 0 → next ≡ departure tree box → Happens tree i box next
+-- two boxes between which p's child j held packets all the time
+pub record Stretched (tree : Tree) (one two : Box) (p j : ℕ) : Type 0 where
+  pub own : OwnPace tree one two j
+  pub top : WholePace one two p
+  pub grows : bytes-of one j ≤ bytes-of two j
+  pub parent-grows : bytes-of one p ≤ bytes-of two p
 
 module _ (tree : Tree) (events : Events) (last : ℕ) (ok : Accepted tree events last) where
-  pub happens : (i : ℕ) → i < last → Happens tree i (after tree events i) (after tree events (suc i))
-  unfolding after step event-refused
-  happens i inside = go (event events i) (ok .each i inside)
-    where
-      go :
-          (e : Event) → meeting-refused tree i (length-word events i) e (after tree events i) .number ≡ 0
-          → Happens tree i (after tree events i) (step tree i e (after tree events i))
-      go (Arrival class length) accepted =
-          let fits = arrival-fits tree (ok .sound) i (length-word events i) class length (after tree events i) accepted in
-          comes (row-of tree class) length (fits .sender) (fits .some-bytes) refl
-      go Finish accepted =
-          goes (has-head-true (after tree events i .rows) 0 (finish-fits tree i (length-word events i) (after tree events i) accepted .1)) refl
+  well : (i : ℕ) → i ≤ last → Kept tree (parts-largest tree events last) i (after tree events i)
+  well i earlier = kept tree events i last earlier ok
 
--- ── what an event does to the counts of a row ──
+  -- a row that holds a packet has a head
+  pub head-at : (i r : ℕ) → i ≤ last → r < tree .rows → 0 < held-by (after tree events i) r → head (after tree events i .rows) r ≢ 0
+  head-at i r earlier inside = holds-head tree (ok .sound) _ (accepted-wider tree events last ok) i _ (well i earlier) r inside
 
--- the mark of a backlog's beginning: written where nothing was held, on the way of the packet that arrived
-mark-stays : (on : Bool) (held now mark : ℕ) → 0 < held → cond on (cond (eqb held 0) now mark) mark ≡ mark
-mark-stays true held now mark some = rw (ne-eqb held 0 (λ none. omega arith))
-mark-stays false held now mark some = refl
+  -- ── paces ──
 
-mark-set : (on : Bool) (held now mark : ℕ) → held ≡ 0 → 0 < cond on (suc held) held → cond on (cond (eqb held 0) now mark) mark ≡ now
-mark-set true held now mark none after = rw (eq-eqb held 0 none)
-mark-set false held now mark none after = absurd (omega arith)
+  paced : (i : ℕ) → i < last → Paced tree (after tree events i) (after tree events (suc i))
+  paced i before =
+      turn tree events last ok i before (Paced tree (after tree events i))
+      (λ is fits. arrival-paced tree (ok .sound) _ (accepted-wider tree events last ok) i _ (well i (omega arith)) _ _ (fits .sender) (fits .some-bytes))
+      (λ is none busy. departure-paced tree (ok .sound) _ (accepted-wider tree events last ok) i _ (well i (omega arith)) busy)
 
-module _ (tree : Tree) (sound : Sound tree) (big : ℕ → ℕ) (i : ℕ) (box : Box) (well : Kept tree big i box) (r : ℕ) (inside : r < tree .rows) where
-  -- an arrival, seen from a row
-  module _ (k length : ℕ) (sender : Sender tree k) where
-    arrival-held : held-by (arrival tree i k length box) r ≡ cond (within tree r k) (suc (held-by box r)) (held-by box r)
-    unfolding arrival
-    arrival-held = along-at tree sound (λ j n. suc n) k r (box .held) (sender .inside) inside (well .held-full)
+  -- both paces are kept, however many events pass
+  pub stretch :
+      (p j m n : ℕ) → Kid tree p j → m ≤ n → n ≤ last → Keeps tree events j m n → Stretched tree (after tree events m) (after tree events n) p j
+  stretch p j m n kid order =
+      le-ind (λ (n : ℕ). n ≤ last → Keeps tree events j m n → Stretched tree (after tree events m) (after tree events n) p j)
+      (λ earlier keeps. omega arith)
+      (λ i from before earlier keeps.
+      let so-far = before (omega arith) (λ x low high. keeps x low (omega arith)) in
+      let next = paced i earlier in
+      let inner = parent-is-inner tree (ok .sound) p j kid in
+      let own = next .own j (kid .positive) (kid .inside) (keeps i from (omega arith)) (keeps (suc i) (omega arith) (omega arith)) in
+      let top = next .top p inner in
+      let below = next .grows j (kid .inside) in
+      let above = next .grows p (inner .inside) in
+      omega arith)
+      n order
 
-    arrival-since :
-        getD (arrival tree i k length box .since) r 0
-        ≡ cond (within tree r k) (cond (eqb (held-by box r) 0) (bytes-of box r) (getD (box .since) r 0)) (getD (box .since) r 0)
-    unfolding arrival
-    arrival-since =
-        along-at tree sound (λ j n. cond (eqb (held-by box j) 0) (bytes-of box j) n) k r (box .since) (sender .inside) inside (well .since-full)
-
-    arrival-parent-since :
-        getD (arrival tree i k length box .parent-since) r 0
-        ≡ cond (within tree r k) (cond (eqb (held-by box r) 0) (bytes-of box (parent tree r)) (getD (box .parent-since) r 0)) (getD (box .parent-since) r 0)
-    unfolding arrival
-    arrival-parent-since =
-        along-at tree sound (λ j n. cond (eqb (held-by box j) 0) (bytes-of box (parent tree j)) n) k r (box .parent-since) (sender .inside) inside
-        (well .parent-since-full)
-
-    arrival-bytes : (x : ℕ) → bytes-of (arrival tree i k length box) x ≡ bytes-of box x
-    unfolding arrival
-    arrival-bytes x = refl
-
-  -- a finish adds no packet, and leaves the marks alone
-  module _ (busy : head (box .rows) 0 ≢ 0) where
-    departure-held : held-by (departure tree box) r ≤ held-by box r
-    unfolding departure
-    departure-held =
-        rw (along-at tree sound (λ j n. pred n) (head-class (box .rows) 0) r (box .held) (well .settled .of-sender 0 (sound .some-rows) busy .inside) inside (well .held-full))
-        (go (within tree r (head-class (box .rows) 0)))
-      where
-        go : (b : Bool) → cond b (pred (held-by box r)) (held-by box r) ≤ held-by box r
-        go true = pred-le (held-by box r)
-        go false = le-refl (held-by box r)
-
-    departure-since : getD (departure tree box .since) r 0 ≡ getD (box .since) r 0
-    unfolding departure
-    departure-since = refl
-
-    departure-parent-since : getD (departure tree box .parent-since) r 0 ≡ getD (box .parent-since) r 0
-    unfolding departure
-    departure-parent-since = refl
+  -- ── backlogs ──
 
   -- a row that held a packet keeps its marks
   pub marks-stay :
-      (next : Box) → Happens tree i box next → 0 < held-by box r
-      → (getD (next .since) r 0 ≡ getD (box .since) r 0) × (getD (next .parent-since) r 0 ≡ getD (box .parent-since) r 0)
-  marks-stay next (comes k length sender some is) holds =
-      rw is (
-        arrival-since k length sender ∙ mark-stays (within tree r k) (held-by box r) (bytes-of box r) (getD (box .since) r 0) holds,
-        arrival-parent-since k length sender ∙ mark-stays (within tree r k) (held-by box r) (bytes-of box (parent tree r)) (getD (box .parent-since) r 0) holds,
-      )
-  marks-stay next (goes busy is) holds = rw is (departure-since busy, departure-parent-since busy)
+      (i r : ℕ) → i < last → r < tree .rows → 0 < held-by (after tree events i) r
+      → (getD (after tree events (suc i) .since) r 0 ≡ getD (after tree events i .since) r 0)
+      × (getD (after tree events (suc i) .parent-since) r 0 ≡ getD (after tree events i .parent-since) r 0)
+  unfolding departure
+  marks-stay i r before inside holds =
+      let box = after tree events i in
+      let keeps = well i (omega arith) in
+      let k = class-at tree events i in
+      turn tree events last ok i before
+      (λ next. (getD (next .since) r 0 ≡ getD (box .since) r 0) × (getD (next .parent-since) r 0 ≡ getD (box .parent-since) r 0))
+      (λ is fits. (
+        arrival-since tree (ok .sound) _ i box keeps k (length-word events i) (fits .sender) r inside
+            ∙ mark-stays (within tree r k) (held-by box r) (bytes-of box r) (getD (box .since) r 0) holds,
+        arrival-parent-since tree (ok .sound) _ i box keeps k (length-word events i) (fits .sender) r inside
+            ∙ mark-stays (within tree r k) (held-by box r) (bytes-of box (parent tree r)) (getD (box .parent-since) r 0) holds,
+      ))
+      (λ is none busy. (refl, refl))
 
   -- a row that holds a packet now and held none before: its backlog begins, and the event finished nothing
   pub wakes :
-      (next : Box) → Happens tree i box next → held-by box r ≡ 0 → 0 < held-by next r
+      (i r : ℕ) → i < last → r < tree .rows → held-by (after tree events i) r ≡ 0 → 0 < held-by (after tree events (suc i)) r
+      → (getD (after tree events (suc i) .since) r 0 ≡ bytes-of (after tree events i) r)
+      × (getD (after tree events (suc i) .parent-since) r 0 ≡ bytes-of (after tree events i) (parent tree r))
+      × ((x : ℕ) → bytes-of (after tree events (suc i)) x ≡ bytes-of (after tree events i) x)
+  wakes i r before inside empty =
+      let box = after tree events i in
+      let keeps = well i (omega arith) in
+      let k = class-at tree events i in
+      turn tree events last ok i before
+      (λ next. 0 < held-by next r
       → (getD (next .since) r 0 ≡ bytes-of box r) × (getD (next .parent-since) r 0 ≡ bytes-of box (parent tree r))
-      × ((x : ℕ) → bytes-of next x ≡ bytes-of box x)
-  wakes next (comes k length sender some is) none holds =
-      let held : 0 < cond (within tree r k) (suc (held-by box r)) (held-by box r) = rw (is, arrival-held k length sender) at holds in
-      rw is (
-        arrival-since k length sender ∙ mark-set (within tree r k) (held-by box r) (bytes-of box r) (getD (box .since) r 0) none held,
-        arrival-parent-since k length sender ∙ mark-set (within tree r k) (held-by box r) (bytes-of box (parent tree r)) (getD (box .parent-since) r 0) none held,
-        arrival-bytes k length sender,
-      )
-  wakes next (goes busy is) none holds =
-      let fewer : held-by next r ≤ held-by box r = rw is (departure-held busy) in
-      absurd (omega arith)
+      × ((x : ℕ) → bytes-of next x ≡ bytes-of box x))
+      (λ is fits holds.
+      let held = rw (arrival-held tree (ok .sound) _ i box keeps k (length-word events i) (fits .sender) r inside) at holds in (
+        arrival-since tree (ok .sound) _ i box keeps k (length-word events i) (fits .sender) r inside
+            ∙ mark-set (within tree r k) (held-by box r) (bytes-of box r) (getD (box .since) r 0) empty held,
+        arrival-parent-since tree (ok .sound) _ i box keeps k (length-word events i) (fits .sender) r inside
+            ∙ mark-set (within tree r k) (held-by box r) (bytes-of box (parent tree r)) (getD (box .parent-since) r 0) empty held,
+        arrival-bytes tree (ok .sound) _ i box keeps k (length-word events i) (fits .sender),
+      ))
+      (λ is none busy holds.
+      let fewer = departure-fewer tree (ok .sound) _ (accepted-wider tree events last ok) i box keeps busy r inside in
+      absurd (omega arith))
 
 -- ── what a stretch finishes ──
 

@@ -3,7 +3,7 @@
 use Prim.Native.Nat.{ℕ, zero, suc, _+_, _*_, _/_, _%_, _≤_, _<_}
 use mathlib.Core.Path.{_≡_, refl, sym, _∙_, ap, subst}
 use mathlib.Core.Logic.{_≢_}
-use mathlib.Core.Bool.{Bool, true, false, cond, not, _&&_, _||_, and-eq-true-iff}
+use mathlib.Core.Bool.{Bool, true, false, cond, not, _&&_, _||_}
 use mathlib.Core.List.{List, [], _∷_}
 use mathlib.Mathlib.Data.Bool.Basic.{or-eq-false-eq-eq-false-and-eq-false as or-is-false}
 use native.Mathlib.Nat.{div-add-mod, mul-left-comm, mul-comm}
@@ -13,19 +13,20 @@ use lib.Dec.{T, leb, ltb, eqb, leb→le, eqb→eq}
 use lib.ListN.{length, getD, set, take, length-set, length-take, length-replicate}
 use lib.Seq.{getD-set-same, getD-set-other}
 use mir.Facts.{and-yes}
-use borrow.Author.Tests.{ltb-true, ltb-false, eqb-true, eqb-false, ne-eqb, not-false}
+use borrow.Author.Tests.{ltb-false, eqb-true, eqb-false, ne-eqb, not-false}
 use Rattle.rules.specs.declared.Event.the-variants.{Arrival, Finish}
 use Rattle.rules.specs.declared.Refusal.{Refusal}
 use Rattle.rules.specs.Limits.{least-rows, most-rows, most-depth, least-bytes, most-bytes, least-share, whole, scale}
 use Rattle.rules.specs.Shares.{allowed, cost, charge}
 use Rattle.rules.specs.Classes.{Table, place-of, earlier, parent-of, zeros, with-row, read, tree-of}
-use Rattle.rules.specs.Classes.{Tree, parent, depth, share, row-of, has-child, sends, children-share}
+use Rattle.rules.specs.Classes.{Tree, parent, depth, share, row-of, sends, children-share}
 use Rattle.rules.specs.Events.{Events, count}
 use Rattle.rules.specs.Box.{Box, has-head}
 use Rattle.rules.specs.Refusals.{given, or-else, first, first-below, Room, rows-refused, class-refused, row-refused}
 use Rattle.rules.specs.Refusals.{shares-refused, table-refused, idle, meeting-refused, event-refused, refused}
 use Rattle.laws.specs.Sound.{Sound, ArrivalFits}
 use Rattle.laws.specs.History.{Accepted}
+use Rattle.laws.proofs.Ways.{sends-sender}
 
 -- ── shares ──
 
@@ -116,9 +117,13 @@ fill : (ℕ → ℕ) → ℕ → List ℕ
 fill entry zero = zeros
 fill entry (suc r) = set (fill entry r) r (entry r)
 
+pub zeros-full : length zeros ≡ most-rows
+unfolding zeros
+zeros-full = length-replicate {A = ℕ} most-rows 0
+
 fill-length : (entry : ℕ → ℕ) (n : ℕ) → length (fill entry n) ≡ most-rows
-unfolding fill zeros
-fill-length entry zero = length-replicate {A = ℕ} most-rows 0
+unfolding fill
+fill-length entry zero = zeros-full
 fill-length entry (suc r) = length-set (fill entry r) r (entry r) ∙ fill-length entry r
 
 fill-at : (entry : ℕ → ℕ) (n r : ℕ) → r < n → n ≤ most-rows → getD (fill entry n) r 0 ≡ entry r
@@ -277,18 +282,17 @@ sound table rows-ok table-ok =
 pub arrival-fits :
     (tree : Tree) → Sound tree → (i word class length : ℕ) (box : Box)
     → meeting-refused tree i word (Arrival class length) box .number ≡ 0 → ArrivalFits tree class length
-unfolding meeting-refused row-of sends
+unfolding meeting-refused row-of
 arrival-fits tree sound i word class bytes box ok =
     let all = first-none _ ok in
     let k = row-of tree class in
     let found = eqb-false k (tree .rows) (given-none _ _ _ (all .0)) in
     let is-sender = not-false (sends tree k) (given-none _ _ _ (all .1 .0)) in
-    let positive = and-eq-true-iff (ltb 0 k) (not (has-child tree k (tree .rows))) .0 is-sender .0 in
     let most = place-most class (tree .identifiers) in
     let named = sound .named in
     let size = or-is-false (ltb bytes least-bytes) (ltb most-bytes bytes) .0 (given-none _ _ _ (all .1 .1 .0)) in
     record {
-      sender = record { positive = ltb-true 0 k positive; inside = omega arith; sender = is-sender };
+      sender = sends-sender tree k (omega arith) is-sender;
       some-bytes = ltb-false bytes least-bytes (size .0);
       few-bytes = ltb-false most-bytes bytes (size .1);
     }

@@ -3,7 +3,8 @@
 use Prim.Native.Nat.{ℕ, zero, suc, _≤_, _<_}
 use mathlib.Core.Path.{_≡_, refl, sym, _∙_, ap, subst}
 use mathlib.Core.Logic.{_≢_, _⊎_, inl, inr, ⊎-elim}
-use mathlib.Core.Bool.{Bool, true, false, cond, not, _||_, false≢true, true≢false, and-eq-true-iff, and-false}
+use mathlib.Core.Bool.{Bool, true, false, cond, not, _||_, false≢true, true≢false, and-eq-true-iff, and-false, or-true}
+use mathlib.Mathlib.Data.Bool.Basic.{eq-false-of-not-eq-true as refuted}
 use mathlib.Core.List.{List}
 use native.Mathlib.Decide.{ℕ-discrete}
 use native.Mathlib.Omega.{arith}
@@ -17,15 +18,10 @@ use Rattle.rules.specs.Steps.{along, on-path}
 use Rattle.rules.specs.Promise.{within, on-way}
 use Rattle.laws.specs.Sound.{Sound, Kid, Inner, Sender}
 
--- ── tests ──
-
+-- which of two tests holds
 either : (a b : Bool) → a || b ≡ true → (a ≡ true) ⊎ (b ≡ true)
 either true b e = inl refl
 either false b e = inr e
-
-or-right : (a b : Bool) → b ≡ true → a || b ≡ true
-or-right true b e = refl
-or-right false b e = e
 
 -- ── children ──
 
@@ -47,7 +43,7 @@ has-kid tree p j zero below is = absurd (omega arith)
 has-kid tree p j (suc n) below is = go (ℕ-discrete j n) (has-kid tree p j n)
   where
     go : Dec (j ≡ n) → (j < n → child tree p j ≡ true → has-child tree p n ≡ true) → has-child tree p n || child tree p n ≡ true
-    go (yes e) earlier = or-right (has-child tree p n) (child tree p n) (rw (← e) is)
+    go (yes e) earlier = rw (← e, is) (or-true (has-child tree p j))
     go (no other) earlier = rw (earlier (omega arith) is)
 
 -- and what is found is a child below n
@@ -61,6 +57,13 @@ kid-found tree p (suc n) e = go (either (has-child tree p n) (child tree p n) e)
         → (j : ℕ) × (j < suc n) × (child tree p j ≡ true)
     go (inl before) earlier = let found = earlier before in (found .0, (omega (arith, found .1)), found .2)
     go (inr last) earlier = (n, omega arith, last)
+
+-- a row that passes the test for a sending class is one: it is not the root
+pub sends-sender : (tree : Tree) (k : ℕ) → k < tree .rows → sends tree k ≡ true → Sender tree k
+unfolding sends
+sends-sender tree k inside is =
+    let both = and-eq-true-iff (ltb 0 k) (not (has-child tree k (tree .rows))) .0 is in
+    record { positive = ltb-true 0 k (both .0); inside = inside; sender = is }
 
 -- a row with a child is no sending class; an inner row is the root or has a child
 pub parent-inner : (tree : Tree) (p j : ℕ) → Kid tree p j → sends tree p ≡ false
@@ -85,7 +88,7 @@ module _ (tree : Tree) (sound : Sound tree) where
       let level : depth tree (parent tree j) ≡ depth tree j = ap (depth tree) (kid .under ∙ sym same) in
       omega arith
 
-  -- an inner row p's parent is inner too, and a child's parent is a row
+  -- a row with a child is inner
   pub parent-is-inner : (p j : ℕ) → Kid tree p j → Inner tree p
   parent-is-inner p j kid =
       record {
@@ -102,11 +105,11 @@ module _ (tree : Tree) (sound : Sound tree) where
   its-parent x positive inside = record { positive = positive; inside = inside; under = refl }
 
   -- the root alone has depth 0
-  at-root : (x : ℕ) → x < tree .rows → depth tree x ≡ 0 → x ≡ 0
+  pub at-root : (x : ℕ) → x < tree .rows → depth tree x ≡ 0 → x ≡ 0
   at-root zero inside level = refl
   at-root (suc x) inside level = let deeper = sound .deeper (suc x) (omega arith) inside in absurd (omega arith)
 
-  below-root : (x d : ℕ) → depth tree x ≡ suc d → 0 < x
+  pub below-root : (x d : ℕ) → depth tree x ≡ suc d → 0 < x
   below-root zero d level = let root = sound .root-depth in absurd (omega arith)
   below-root (suc x) d level = omega arith
 
@@ -143,15 +146,15 @@ module _ (tree : Tree) (sound : Sound tree) where
       starts (suc d) = rw (eq-eqb k k refl)
 
   -- the same for a row that is on it
-  further : (r x : ℕ) → 0 < x → x < tree .rows → within tree r (parent tree x) ≡ true → within tree r x ≡ true
-  further r x positive inside on = within-next r x positive inside ∙ or-right (eqb x r) (within tree r (parent tree x)) on
+  pub further : (r x : ℕ) → 0 < x → x < tree .rows → within tree r (parent tree x) ≡ true → within tree r x ≡ true
+  further r x positive inside on = rw (within-next r x positive inside, on) (or-true (eqb x r))
 
-  nearer : (r x : ℕ) → 0 < x → x < tree .rows → within tree r x ≡ true → (x ≡ r) ⊎ (within tree r (parent tree x) ≡ true)
+  pub nearer : (r x : ℕ) → 0 < x → x < tree .rows → within tree r x ≡ true → (x ≡ r) ⊎ (within tree r (parent tree x) ≡ true)
   nearer r x positive inside on =
       ⊎-elim (λ here. inl (eqb-true x r here)) (λ above. inr above)
       (either (eqb x r) (within tree r (parent tree x)) (sym (within-next r x positive inside) ∙ on))
 
-  only-root : (r : ℕ) → within tree r 0 ≡ true → r ≡ 0
+  pub only-root : (r : ℕ) → within tree r 0 ≡ true → r ≡ 0
   only-root r on = sym (eqb-true 0 r (sym (within-root r) ∙ on))
 
   -- a row on the way is no deeper
@@ -173,15 +176,11 @@ module _ (tree : Tree) (sound : Sound tree) where
 
   -- no row is in the part of its own child
   pub not-below : (p c : ℕ) → Kid tree p c → within tree c p ≡ false
-  not-below p c kid = go (within tree c p) refl
-    where
-      go : (b : Bool) → within tree c p ≡ b → b ≡ false
-      go false e = refl
-      go true e =
-          let deeper = sound .deeper c (kid .positive) (kid .inside) in
-          let level = ap (depth tree) (kid .under) in
-          let shallower = no-deeper c p (parent-is-inner p c kid .inside) e in
-          absurd (omega arith)
+  not-below p c kid = refuted λ on.
+      let deeper = sound .deeper c (kid .positive) (kid .inside) in
+      let level = ap (depth tree) (kid .under) in
+      let shallower = no-deeper c p (parent-is-inner p c kid .inside) on in
+      omega arith
 
   pub parent-within : (p c x : ℕ) → x < tree .rows → Kid tree p c → within tree c x ≡ true → within tree p x ≡ true
   parent-within p c x inside kid = climb (λ x. within tree c x ≡ true → within tree p x ≡ true) root next x inside

@@ -16,9 +16,9 @@ use Rattle.rules.specs.declared.Why.{Why}
 use Rattle.laws.specs.Moves.{Full, SameRow}
 
 -- two lists of entries by row that differ at most in row r's
-pub record Entry (r : ℕ) (xs ys : List ℕ) : Type 0 where
-  pub as-long : length ys ≡ length xs
-  pub others : (j : ℕ) → j ≢ r → getD ys j 0 ≡ getD xs j 0
+record Entry (r : ℕ) (xs ys : List ℕ) : Type 0 where
+  as-long : length ys ≡ length xs
+  others : (j : ℕ) → j ≢ r → getD ys j 0 ≡ getD xs j 0
 
 kept : (r : ℕ) (xs : List ℕ) → Entry r xs xs
 kept r xs = record { as-long = refl; others = λ j apart. refl }
@@ -31,12 +31,12 @@ written xs r v full inside = getD-set-same xs r v 0 (omega arith)
 
 -- y is x but for row r
 pub record Wrote (r : ℕ) (x y : Rows) : Type 0 where
-  pub starts-put : Entry r (x .starts) (y .starts)
-  pub finishes-put : Entry r (x .finishes) (y .finishes)
-  pub virtuals-put : Entry r (x .virtuals) (y .virtuals)
-  pub heads-put : Entry r (x .heads) (y .heads)
-  pub lengths-put : Entry r (x .lengths) (y .lengths)
-  pub classes-put : Entry r (x .classes) (y .classes)
+  starts-put : Entry r (x .starts) (y .starts)
+  finishes-put : Entry r (x .finishes) (y .finishes)
+  virtuals-put : Entry r (x .virtuals) (y .virtuals)
+  heads-put : Entry r (x .heads) (y .heads)
+  lengths-put : Entry r (x .lengths) (y .lengths)
+  classes-put : Entry r (x .classes) (y .classes)
 
 pub wrote-full : {r : ℕ} {x y : Rows} → Wrote r x y → Full x → Full y
 wrote-full wrote full =

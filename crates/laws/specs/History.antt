@@ -1,13 +1,12 @@
 -- What the theorems count in a list of events: the events that are not refused, the largest packets, a class's arrivals.
-use Prim.Native.Nat.{ℕ, zero, suc, _+_, _≤_, _<_, max}
+use Prim.Native.Nat.{ℕ, zero, suc, _<_, max}
 use mathlib.Core.Path.{_≡_}
-use mathlib.Core.Bool.{Bool, true, false, cond}
+use mathlib.Core.Bool.{cond}
 use mathlib.Core.List.{List, [], _∷_, _++_}
 use Rattle.rules.specs.Classes.{Tree}
 use Rattle.rules.specs.Events.{Events, length-word, event}
 use Rattle.rules.specs.Refusals.{event-refused}
 use Rattle.rules.specs.Promise.{for-part}
-use Rattle.rules.specs.declared.Event.{Event}
 use Rattle.rules.specs.declared.Event.the-variants.{Arrival, Finish}
 use Rattle.laws.specs.Sound.{Sound}
 

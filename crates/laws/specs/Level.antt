@@ -1,8 +1,7 @@
 -- One level on its own: children with shares, each idle, waiting or taken, and a virtual time; how far a child can be behind.
 use Prim.Native.Nat.{ℕ, zero, suc, _+_, _*_, _-_, _≤_, _<_, max}
-use mathlib.Core.Path.{_≡_}
 use mathlib.Core.Logic.{_⊎_}
-use mathlib.Core.Bool.{Bool, true, false, cond}
+use mathlib.Core.Bool.{cond}
 use lib.Dec.{leb}
 use Rattle.rules.specs.Limits.{whole, scale}
 

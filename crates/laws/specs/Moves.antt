@@ -1,13 +1,13 @@
 -- What one event does to the rows, seen from one inner row: nothing, or one child moves and the row may take a child.
 -- `a` is the state before the event and `b` the state after it.
-use Prim.Native.Nat.{ℕ, suc, _+_, _*_, _≤_, _<_, max}
+use Prim.Native.Nat.{ℕ, _+_, _*_, _≤_, _<_, max}
 use mathlib.Core.Path.{_≡_}
 use mathlib.Core.Logic.{_≢_, _⊎_}
-use mathlib.Core.Bool.{true, false}
+use mathlib.Core.Bool.{true}
 use lib.ListN.{length}
 use Rattle.rules.specs.Limits.{most-rows, ticks}
 use Rattle.rules.specs.Shares.{charge}
-use Rattle.rules.specs.Classes.{Tree, share, sends}
+use Rattle.rules.specs.Classes.{Tree, share}
 use Rattle.rules.specs.Box.{Rows, start, finish, virtual, head, head-length, head-class}
 use Rattle.rules.specs.Promise.{within}
 use Rattle.laws.specs.Sound.{Kid, Inner, Sender}
