@@ -14,7 +14,7 @@ use Rattle.rules.specs.Classes.{Tree, parent, child, row-of}
 use Rattle.rules.specs.Events.{Events, class-word, length-word}
 use Rattle.rules.specs.Box.{Packet, Box, Rows, head, head-length, head-class, held-by, queue-of}
 use Rattle.rules.specs.Steps.{arrives, arrival, departure, step, after}
-use Rattle.rules.specs.Refusals.{meeting-refused}
+use Rattle.rules.specs.Refusals.{idle, meeting-refused}
 use Rattle.rules.specs.Promise.{within, for-part}
 use Rattle.laws.specs.Sound.{Sound, Kid, Inner, Sender, ArrivalFits}
 use Rattle.laws.specs.Moves.{SameHead, Settled}
@@ -328,10 +328,10 @@ module _ (tree : Tree) (sound : Sound tree) (big : ℕ → ℕ) (wider : (j : �
 
     -- an event that is not refused in this box, if its packet is no larger than its class's largest
     pub step-kept :
-        (word : ℕ) (e : Event) → meeting-refused tree now word e box .number ≡ 0 → Covered tree big e → Kept tree big (suc now) (step tree now e box)
+        (word : ℕ) (e : Event) → meeting-refused tree now word e (idle box) .number ≡ 0 → Covered tree big e → Kept tree big (suc now) (step tree now e box)
     unfolding step Covered
     step-kept word (Arrival class length) passes small =
-        let fits = arrival-fits tree sound now word class length box passes in
+        let fits = arrival-fits tree sound now word class length (idle box) passes in
         arrival-kept (row-of tree class) length (fits .sender) (fits .some-bytes) small
     step-kept word Finish passes small =
         departure-kept (has-true (box .rows) 0 (finish-fits tree now word box passes .1))

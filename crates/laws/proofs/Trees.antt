@@ -280,10 +280,10 @@ sound table rows-ok table-ok =
 
 -- an event that is not refused
 pub arrival-fits :
-    (tree : Tree) → Sound tree → (i word class length : ℕ) (box : Box)
-    → meeting-refused tree i word (Arrival class length) box .number ≡ 0 → ArrivalFits tree class length
+    (tree : Tree) → Sound tree → (i word class length : ℕ) (idles : Bool)
+    → meeting-refused tree i word (Arrival class length) idles .number ≡ 0 → ArrivalFits tree class length
 unfolding meeting-refused row-of
-arrival-fits tree sound i word class bytes box ok =
+arrival-fits tree sound i word class bytes idles ok =
     let all = first-none _ ok in
     let k = row-of tree class in
     let found = eqb-false k (tree .rows) (given-none _ _ _ (all .0)) in
@@ -298,7 +298,7 @@ arrival-fits tree sound i word class bytes box ok =
     }
 
 pub finish-fits :
-    (tree : Tree) (i word : ℕ) (box : Box) → meeting-refused tree i word Finish box .number ≡ 0
+    (tree : Tree) (i word : ℕ) (box : Box) → meeting-refused tree i word Finish (idle box) .number ≡ 0
     → (word ≡ 0) × (has-head (box .rows) 0 ≡ true)
 unfolding meeting-refused idle
 finish-fits tree i word box ok =

@@ -11,7 +11,7 @@ use Rattle.rules.specs.declared.Event.the-variants.{Arrival, Finish}
 use Rattle.rules.specs.Classes.{Tree, row-of}
 use Rattle.rules.specs.Events.{Events, class-word, length-word, decode, event}
 use Rattle.rules.specs.Box.{Box, head}
-use Rattle.rules.specs.Refusals.{event-refused}
+use Rattle.rules.specs.Refusals.{idle, event-refused}
 use Rattle.rules.specs.Steps.{arrival, departure, step, after}
 use Rattle.laws.specs.Sound.{ArrivalFits}
 use Rattle.laws.specs.History.{Accepted}
@@ -53,7 +53,7 @@ module _ (tree : Tree) (events : Events) where
   turn last ok i before P arriving finishing = ⊎-elim arrives finishes (met events i)
     where
       arrives : Arrives events i → P (step tree i (event events i) (after tree events i))
-      arrives is = rw is (arriving is (arrival-fits tree (ok .sound) i _ _ _ (after tree events i) (rw is at (ok .each i before))))
+      arrives is = rw is (arriving is (arrival-fits tree (ok .sound) i _ _ _ (idle (after tree events i)) (rw is at (ok .each i before))))
 
       finishes : event events i ≡ Finish → P (step tree i (event events i) (after tree events i))
       finishes is =

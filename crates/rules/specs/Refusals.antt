@@ -112,19 +112,19 @@ table-refused table =
 unfoldable pub idle : Box → Bool
 idle box = not (has-head (box .rows) 0)
 
--- an event at place i, with its length word, that meets this box. An arrival: 11, 12, 13; a finish: 13, 14
-unfoldable pub meeting-refused : Tree → ℕ → ℕ → Event → Box → Refusal
-meeting-refused tree i word (Arrival class length) box =
+-- an event at place i, with its length word, that meets an idle line or a busy one. An arrival: 11, 12, 13; a finish: 13, 14
+unfoldable pub meeting-refused : Tree → ℕ → ℕ → Event → Bool → Refusal
+meeting-refused tree i word (Arrival class length) idles =
     first
     (given (eqb (row-of tree class) (tree .rows)) 11 i
     ∷ given (not (sends tree (row-of tree class))) 12 i
     ∷ given (ltb length least-bytes || ltb most-bytes length) 13 i
     ∷ [])
-meeting-refused tree i word Finish box = first (given (not (eqb word 0)) 13 i ∷ given (idle box) 14 i ∷ [])
+meeting-refused tree i word Finish idles = first (given (not (eqb word 0)) 13 i ∷ given idles 14 i ∷ [])
 
 -- the event at place i, in the state that the events before it reach
 unfoldable pub event-refused : Tree → Events → ℕ → Refusal
-event-refused tree events i = meeting-refused tree i (length-word events i) (event events i) (after tree events i)
+event-refused tree events i = meeting-refused tree i (length-word events i) (event events i) (idle (after tree events i))
 
 -- ── all of it ──
 
