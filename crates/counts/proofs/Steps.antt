@@ -1,0 +1,43 @@
+-- What the rules' arrival and departure make of the counts, from what the functions make of the arrays.
+-- Assumes nothing.
+use Prim.Native.Nat.{ℕ, suc, pred, _+_}
+use mathlib.Core.Path.{_≡_, sym, _∙_}
+use mathlib.Core.List.{List}
+use Rattle.rules.specs.Classes.{Tree}
+use Rattle.rules.specs.Box.{Box, head-class, head-length}
+use Rattle.rules.specs.Steps.{along, arrival, departure}
+use Rattle.counts.specs.Given.{Paths, Counts, own, above, begun, paths}
+use Rattle.counts.proofs.Paths.{along-by}
+
+pub entered : (tree : Tree) (box : Box) (place length k : ℕ) (parents depths bytes held since parent-since held′ since′ parent-since′ : List ℕ)
+    → Paths tree parents depths
+    → Counts box bytes held since parent-since
+    → held′ ≡ along (paths parents depths) (λ r n. suc n) k held
+    → since′ ≡ along (paths parents depths) (begun held (own bytes)) k since
+    → parent-since′ ≡ along (paths parents depths) (begun held (above parents bytes)) k parent-since
+    → Counts (arrival tree place k length box) bytes held′ since′ parent-since′
+unfolding arrival
+entered tree box place length k parents depths bytes held since parent-since held′ since′ parent-since′ by counts more ours theirs =
+    record {
+      bytes = counts .bytes;
+      held = along-by tree parents depths by _ k _ ∙ rw (counts .held) (sym more);
+      since = along-by tree parents depths by _ k _ ∙ rw (counts .held, counts .bytes, counts .since) (sym ours);
+      parent-since = along-by tree parents depths by _ k _ ∙ rw (counts .held, counts .bytes, counts .parent-since, by .parents) (sym theirs);
+    }
+
+pub left : (tree : Tree) (box : Box) (k length : ℕ) (parents depths bytes held since parent-since bytes′ held′ : List ℕ)
+    → Paths tree parents depths
+    → head-class (box .rows) 0 ≡ k
+    → head-length (box .rows) 0 ≡ length
+    → Counts box bytes held since parent-since
+    → bytes′ ≡ along (paths parents depths) (λ r n. n + length) k bytes
+    → held′ ≡ along (paths parents depths) (λ r n. pred n) k held
+    → Counts (departure tree box) bytes′ held′ since parent-since
+unfolding departure
+left tree box k length parents depths bytes held since parent-since bytes′ held′ by class long counts more less =
+    record {
+      bytes = along-by tree parents depths by _ _ _ ∙ rw (class, long, counts .bytes) (sym more);
+      held = along-by tree parents depths by _ _ _ ∙ rw (class, counts .held) (sym less);
+      since = counts .since;
+      parent-since = counts .parent-since;
+    }

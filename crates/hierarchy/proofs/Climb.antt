@@ -1,0 +1,100 @@
+-- The way from a row up to the root, a turn of a loop at a time: what remains at the next row is what remained at this one.
+-- Assumes nothing.
+use Prim.Native.Nat.{ℕ, zero, suc, _-_, _<_}
+use mathlib.Core.Path.{_≡_, refl, sym, _∙_}
+use mathlib.Core.Bool.{true, false}
+use mathlib.Core.List.{List}
+use native.Mathlib.Numerals.{sub-one}
+use native.Mathlib.Omega.{arith}
+use lib.ListN.{getD, set}
+use Rattle.rules.specs.declared.Why.{Why}
+use Rattle.rules.specs.Classes.{Tree, parent}
+use Rattle.rules.specs.Box.{Rows, has-head}
+use Rattle.rules.specs.Steps.{chooses, up, on-path, along}
+use Rattle.hierarchy.specs.Arrays.{tree, headed}
+use Rattle.hierarchy.proofs.Parts.{head-part}
+
+-- ── choosing ──
+
+module _ (tree : Tree) (why : Why) (r : ℕ) (rows : Rows) where
+  pub up-done : (d : ℕ) → d ≡ 0 → up d tree why r rows ≡ rows
+  unfolding up
+  up-done d none = rw none
+
+  pub up-stops : (d : ℕ) → 0 < d → has-head rows (parent tree r) ≡ true → up d tree why r rows ≡ rows
+  unfolding up
+  up-stops zero some has = absurd (omega arith)
+  up-stops (suc d) some has = rw (has, up)
+
+  pub up-goes : (d : ℕ) → 0 < d → has-head rows (parent tree r) ≡ false
+      → up d tree why r rows ≡ up (d - 1) tree why (parent tree r) (chooses tree why (parent tree r) rows)
+  unfolding up
+  up-goes zero some has = absurd (omega arith)
+  up-goes (suc d) some has = rw (has, up, sub-one)
+
+-- what remains to be done from row r, which is at depth d, is all that was to be done from the row at first
+pub record Rising (n : ℕ) (parents shares : List ℕ) (why : Why) (row depth : ℕ) (before : Rows) (d r : ℕ) (now : Rows) : Type 0 where
+  pub same : (ids depths : List ℕ)
+      → up d (tree n ids parents depths shares) why r now ≡ up depth (tree n ids parents depths shares) why row before
+
+module _ (n : ℕ) (parents shares : List ℕ) (why : Why) (row depth : ℕ) (before : Rows) where
+  pub rising-all : Rising n parents shares why row depth before depth row before
+  rising-all = record { same = λ ids depths. refl }
+
+  module _ (d r : ℕ) (now : Rows) (rising : Rising n parents shares why row depth before d r now) where
+    pub rising-done : d ≡ 0 → (ids depths : List ℕ) → now ≡ up depth (tree n ids parents depths shares) why row before
+    rising-done none ids depths = sym (up-done (tree n ids parents depths shares) why r now d none) ∙ rising .same ids depths
+
+    pub rising-stops : 0 < d → headed (now .heads) (getD parents r 0) ≡ true
+        → (ids depths : List ℕ) → now ≡ up depth (tree n ids parents depths shares) why row before
+    rising-stops some has ids depths =
+        let whole = tree n ids parents depths shares in
+        sym (up-stops whole why r now d some (head-part now (getD parents r 0) ∙ has)) ∙ rising .same ids depths
+
+    pub rising-goes : (next : Rows) → 0 < d → headed (now .heads) (getD parents r 0) ≡ false
+        → ((ids depths : List ℕ) → next ≡ chooses (tree n ids parents depths shares) why (getD parents r 0) now)
+        → Rising n parents shares why row depth before (d - 1) (getD parents r 0) next
+    rising-goes next some has chosen =
+        record {
+          same = λ ids depths.
+              let whole = tree n ids parents depths shares in
+              rw (chosen ids depths, ← up-goes whole why r now d some (head-part now (getD parents r 0) ∙ has)) (rising .same ids depths);
+        }
+
+-- ── clearing ──
+
+abbrev pub clear : ℕ → ℕ → ℕ
+clear r n = 0
+
+module _ (tree : Tree) (r : ℕ) (xs : List ℕ) where
+  pub path-done : (d : ℕ) → d ≡ 0 → on-path d tree clear r xs ≡ set xs r 0
+  unfolding on-path
+  path-done d none = rw none
+
+  pub path-goes : (d : ℕ) → 0 < d → on-path d tree clear r xs ≡ on-path (d - 1) tree clear (parent tree r) (set xs r 0)
+  unfolding on-path
+  path-goes zero some = absurd (omega arith)
+  path-goes (suc d) some = rw sub-one
+
+-- what remains to be cleared of xs from row r, which is at depth d, is all that was to be cleared from row k at first
+pub record Remains (parents depths : List ℕ) (k : ℕ) (xs₀ : List ℕ) (d r : ℕ) (xs : List ℕ) : Type 0 where
+  pub same : (rows : ℕ) (ids shares : List ℕ)
+      → on-path d (tree rows ids parents depths shares) clear r xs ≡ along (tree rows ids parents depths shares) clear k xs₀
+
+pub remains-all : (parents depths : List ℕ) (k : ℕ) (xs : List ℕ) → Remains parents depths k xs (getD depths k 0) k xs
+unfolding along
+remains-all parents depths k xs = record { same = λ rows ids shares. refl }
+
+pub remains-less : {parents depths : List ℕ} {k : ℕ} {xs₀ : List ℕ} {d r : ℕ} {xs ys : List ℕ} → 0 < d → ys ≡ set xs r 0
+    → Remains parents depths k xs₀ d r xs → Remains parents depths k xs₀ (d - 1) (getD parents r 0) ys
+remains-less {parents} {depths} {k} {xs₀} {d} {r} {xs} {ys} some written remains =
+    record {
+      same = λ rows ids shares.
+          rw (written, ← path-goes (tree rows ids parents depths shares) r xs d some) (remains .same rows ids shares);
+    }
+
+pub remains-last : {parents depths : List ℕ} {k : ℕ} {xs₀ : List ℕ} {d r : ℕ} {xs ys : List ℕ} → d ≡ 0 → ys ≡ set xs r 0
+    → Remains parents depths k xs₀ d r xs
+    → (rows : ℕ) (ids shares : List ℕ) → ys ≡ along (tree rows ids parents depths shares) clear k xs₀
+remains-last {parents} {depths} {k} {xs₀} {d} {r} {xs} {ys} none written remains rows ids shares =
+    rw (written, ← path-done (tree rows ids parents depths shares) r xs d none) (remains .same rows ids shares)

@@ -1,0 +1,4 @@
+-- What the contracts of the steps speak of beside the rules.
+pub mod Arrays
+pub mod Sizes
+pub mod Next
