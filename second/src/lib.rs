@@ -14,6 +14,7 @@ mod slices;
 mod table;
 mod text;
 mod tree;
+pub mod trials;
 
 pub use answer::Answer;
 pub use run::run;

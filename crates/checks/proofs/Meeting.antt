@@ -1,0 +1,131 @@
+-- What an event meets: its class's row as the code finds it, and the counts after it.
+-- Assumes nothing.
+use Prim.Native.Nat.{ℕ, suc, _+_, _≤_, _<_}
+use mathlib.Core.Path.{_≡_, refl, sym, _∙_, ap, ap₂}
+use mathlib.Core.Bool.{Bool, true, false, cond}
+use mathlib.Core.Logic.{_≢_}
+use mathlib.Core.List.{List}
+use native.Mathlib.Omega.{arith}
+use lib.Dec.{eqb, leb}
+use lib.ListN.{length, getD}
+use borrow.Author.Tests.{eq-eqb, ne-eqb, eqb-false}
+use Rattle.rules.specs.declared.Event.{Event}
+use Rattle.rules.specs.declared.Event.the-variants.{Arrival, Finish}
+use Rattle.rules.specs.declared.Refusal.{Refusal}
+use Rattle.rules.specs.Classes.{Tree, place-of, row-of}
+use Rattle.rules.specs.Events.{Events, class-word, length-word, decode, event}
+use Rattle.rules.specs.Promise.{within, for-part, one-arrival, one-finish, arrived, finish-count}
+use Rattle.rules.specs.Refusals.{nothing, given, or-else, first, first-below, meeting-refused}
+use Rattle.checks.specs.Answers.{refusal-of}
+use Rattle.checks.specs.Counted.{packet-refusal, counted-refused, Known}
+use Rattle.checks.proofs.Places.{place-within}
+use Rattle.checks.proofs.Firsts.{Plain, or-else-second, none-first, given-false, given-plain, or-else-plain, last-plain, below-plain, stopped}
+
+-- ── rows ──
+
+module _ (tree : Tree) (identifiers : List ℕ) (senders : List Bool) (known : Known tree identifiers senders) where
+  row-found : (class : ℕ) → row-of tree class ≡ place-of class identifiers
+  unfolding row-of
+  row-found class = ap (place-of class) (known .names)
+
+  row-within : (class : ℕ) → row-of tree class ≤ length identifiers
+  unfolding row-of
+  row-within class = rw (known .names) (place-within class identifiers)
+
+  module _ (i word : ℕ) (idle : Bool) (class bytes row : ℕ) (found : row ≡ place-of class identifiers) where
+    pub unknown-class : row ≡ length identifiers → refusal-of 11 i 0 ≡ meeting-refused tree i word (Arrival class bytes) idle
+    unfolding meeting-refused first or-else given nothing
+    unknown-class end =
+        rw (eq-eqb (row-of tree class) (tree .rows) (row-found class ∙ sym found ∙ end ∙ sym (known .rows))) refl
+
+    pub known-class : row ≢ length identifiers
+        → packet-refusal i (getD senders row false) bytes ≡ meeting-refused tree i word (Arrival class bytes) idle
+    unfolding meeting-refused packet-refusal first or-else given nothing
+    known-class inside =
+        let same : row-of tree class ≡ row = row-found class ∙ sym found in
+        let lower = row-within class in
+        rw (ne-eqb (row-of tree class) (tree .rows) (λ e. inside (sym same ∙ e ∙ known .rows)), same, known .sending row (omega arith)) refl
+
+  -- ── counts ──
+
+  either-zero : (b : Bool) → _≡_ {A = ℕ} (cond b 0 0) 0
+  either-zero true = refl
+  either-zero false = refl
+
+  -- an arrival that is not refused is for a row
+  arrival-counts : (class bytes i word : ℕ) (idle : Bool) → meeting-refused tree i word (Arrival class bytes) idle .number ≡ 0
+      → within tree 0 (row-of tree class) ≡ true
+  unfolding meeting-refused first
+  arrival-counts class bytes i word idle none =
+      let test = given-false (eqb (row-of tree class) (tree .rows)) 11 i (omega arith) (none-first (given _ 11 i) _ none) in
+      let other = eqb-false (row-of tree class) (tree .rows) test in
+      let lower = row-within class in
+      let rows = known .rows in
+      known .rooted (row-of tree class) (omega arith)
+
+  pub event-counts : (events : Events) (i : ℕ) (idle : Bool) → meeting-refused tree i (length-word events i) (event events i) idle .number ≡ 0
+      → cond (for-part tree events 0 i) (one-arrival (event events i)) 0 ≡ one-arrival (event events i)
+  unfolding for-part event decode one-arrival
+  event-counts events i idle none = go (eqb class 0) none
+    where
+      class : ℕ
+      class = class-word events i
+
+      bytes : ℕ
+      bytes = length-word events i
+
+      go : (b : Bool) → meeting-refused tree i bytes (cond b Finish (Arrival class bytes)) idle .number ≡ 0
+          → cond (within tree 0 (row-of tree class)) (one-arrival (cond b Finish (Arrival class bytes))) 0
+          ≡ one-arrival (cond b Finish (Arrival class bytes))
+      go true none = either-zero (within tree 0 (row-of tree class))
+      go false none = rw (arrival-counts class bytes i bytes idle none) refl
+
+-- ── a list of events ──
+
+-- the first i events are not refused, and have so many arrivals and finishes
+pub record Passed (tree : Tree) (events : Events) (i arrivals finishes : ℕ) : Type 0 where
+  pub came : arrivals ≡ arrived tree events 0 i
+  pub went : finishes ≡ finish-count events i
+  pub none : first-below (counted-refused tree events) i .number ≡ 0
+
+pub passed-none : (tree : Tree) (events : Events) → Passed tree events 0 0 0
+unfolding arrived finish-count first-below nothing
+passed-none tree events = record { came = refl; went = refl; none = refl }
+
+pub meeting-plain : (tree : Tree) (i word : ℕ) (e : Event) (idle : Bool) → Plain (meeting-refused tree i word e idle)
+unfolding meeting-refused first
+meeting-plain tree i word (Arrival class bytes) idle =
+    or-else-plain (given _ 11 i) _ (given-plain _ 11 i (omega arith))
+    (or-else-plain (given _ 12 i) _ (given-plain _ 12 i (omega arith)) (last-plain (given _ 13 i) (given-plain _ 13 i (omega arith))))
+meeting-plain tree i word Finish idle =
+    or-else-plain (given _ 13 i) _ (given-plain _ 13 i (omega arith)) (last-plain (given _ 14 i) (given-plain _ 14 i (omega arith)))
+
+pub counted-plain : (tree : Tree) (events : Events) (n : ℕ) → Plain (first-below (counted-refused tree events) n)
+unfolding counted-refused
+counted-plain tree events =
+    below-plain (counted-refused tree events)
+    (λ i. meeting-plain tree i (length-word events i) (event events i) (leb (arrived tree events 0 i) (finish-count events i)))
+
+module _ (tree : Tree) (identifiers : List ℕ) (senders : List Bool) (known : Known tree identifiers senders) (events : Events)
+    (i arrivals finishes : ℕ) (passed : Passed tree events i arrivals finishes) (refusal : Refusal)
+    (met : refusal ≡ meeting-refused tree i (length-word events i) (event events i) (leb arrivals finishes)) where
+  counted : refusal ≡ counted-refused tree events i
+  unfolding counted-refused
+  counted = rw (← passed .came, ← passed .went) met
+
+  pub passed-stop : (n : ℕ) → i < n → refusal .number ≢ 0 → refusal ≡ first-below (counted-refused tree events) n
+  passed-stop n below some = counted ∙ sym (stopped (counted-refused tree events) i n below (passed .none) (rw (← counted) some))
+
+  passed-by : or-else (first-below (counted-refused tree events) i) (counted-refused tree events i) ≡ counted-refused tree events i
+  passed-by = or-else-second (first-below (counted-refused tree events) i) (counted-refused tree events i) (passed .none)
+
+  pub passed-more : refusal .number ≡ 0
+      → Passed tree events (suc i) (arrivals + one-arrival (event events i)) (finishes + one-finish (event events i))
+  unfolding arrived finish-count first-below or-else
+  passed-more none =
+      let fine : meeting-refused tree i (length-word events i) (event events i) (leb arrivals finishes) .number ≡ 0 = rw met at none in
+      record {
+        came = ap₂ _+_ (passed .came) (sym (event-counts tree identifiers senders known events i (leb arrivals finishes) fine));
+        went = rw (passed .went) refl;
+        none = rw (passed-by, ← counted) none;
+      }

@@ -1,0 +1,84 @@
+-- A whole input: the refusal by the parts that were looked at, and what is known where a part does not refuse.
+-- Assumes nothing.
+use Prim.Native.Nat.{_≤_}
+use mathlib.Core.Path.{_≡_, refl, sym, _∙_}
+use mathlib.Core.Bool.{Bool, true, false, cond, not, _||_}
+use mathlib.Core.Logic.{_≢_}
+use mathlib.Core.List.{[], _∷_}
+use native.Mathlib.Omega.{arith}
+use lib.Dec.{eqb, ltb}
+use lib.ListN.{length}
+use borrow.Author.Tests.{eqb-true, ltb-false, not-false}
+use Rattle.rules.specs.declared.Refusal.{Refusal}
+use Rattle.rules.specs.Limits.{most-events}
+use Rattle.rules.specs.Classes.{Table, Tree, tree-of}
+use Rattle.rules.specs.Events.{Events, count}
+use Rattle.rules.specs.Refusals.{Room, nothing, or-else, first, first-below, rows-refused, events-refused, table-refused, refused}
+use Rattle.checks.specs.Lent.{Sized}
+use Rattle.checks.specs.Answers.{senders-below, accepting, refusing, answer}
+use Rattle.checks.specs.Counted.{counted-refused, lengths-refused}
+use Rattle.checks.proofs.Firsts.{or-else-first, or-else-second, none-first, none-second, given-false, table-plain}
+use Rattle.checks.proofs.Counting.{rules-split}
+use Rattle.checks.proofs.Answering.{first-false, second-false, sized, answer-accepts}
+
+-- an answer has the refusal that it is made of
+pub answer-refusal : (refusal : Refusal) (tree : Tree) → answer refusal tree .refusal ≡ refusal
+unfolding answer accepting refusing
+answer-refusal refusal tree = go (eqb (refusal .number) 0)
+  where
+    go : (b : Bool) → cond b (accepting refusal tree) (refusing refusal) .refusal ≡ refusal
+    go true = refl
+    go false = refl
+
+pub answer-senders : (refusal : Refusal) (tree : Tree) → refusal .number ≡ 0 → answer refusal tree .senders ≡ senders-below tree
+    (tree .rows)
+unfolding accepting
+answer-senders refusal tree none = rw (answer-accepts refusal tree none) refl
+
+pub record Listed (events : Events) : Type 0 where
+  pub even : length (events .lengths) ≡ count events
+  pub few : count events ≤ most-events
+
+module _ (table : Table) (events : Events) (room : Room) where
+  abbrev lengths : Refusal
+  lengths = lengths-refused table events room
+
+  abbrev listed : Refusal
+  listed = first-below (counted-refused (tree-of table) events) (count events)
+
+  split : refused table events room ≡ or-else lengths (or-else (table-refused table) (or-else listed nothing))
+  split = rules-split table events room
+
+  pub by-lengths : lengths .number ≢ 0 → refused table events room ≡ lengths
+  by-lengths some = split ∙ or-else-first lengths _ some
+
+  past-lengths : lengths .number ≡ 0 → refused table events room ≡ or-else (table-refused table) (or-else listed nothing)
+  past-lengths none = split ∙ or-else-second lengths _ none
+
+  pub by-table : lengths .number ≡ 0 → table-refused table .number ≢ 0 → refused table events room ≡ table-refused table
+  by-table none some = past-lengths none ∙ or-else-first (table-refused table) _ some
+
+  past-table : lengths .number ≡ 0 → table-refused table .number ≡ 0 → refused table events room ≡ or-else listed nothing
+  past-table none fine = past-lengths none ∙ or-else-second (table-refused table) _ fine
+
+  pub by-list : lengths .number ≡ 0 → table-refused table .number ≡ 0 → listed .number ≢ 0 → refused table events room ≡ listed
+  by-list none fine some = past-table none fine ∙ or-else-first listed nothing some
+
+  pub by-none : lengths .number ≡ 0 → table-refused table .number ≡ 0 → listed .number ≡ 0 → refused table events room ≡ table-refused table
+  by-none none fine passed = past-table none fine ∙ or-else-second listed nothing passed ∙ sym (table-plain table fine)
+
+  pub whole-sized : lengths .number ≡ 0 → Sized table
+  unfolding lengths-refused first
+  whole-sized none = sized table (none-first (rows-refused table) _ none)
+
+  pub whole-listed : lengths .number ≡ 0 → Listed events
+  unfolding lengths-refused first events-refused
+  whole-listed none =
+      let a = not (eqb (length (events .lengths)) (count events)) in
+      let b = ltb most-events (count events) in
+      let both = given-false (a || b) 2 0 (omega arith) (none-first (events-refused events) _ (none-second (rows-refused table) _ none)) in
+      record {
+        even = eqb-true (length (events .lengths)) (count events)
+            (not-false (eqb (length (events .lengths)) (count events)) (first-false a b both));
+        few = ltb-false most-events (count events) (second-false a b both);
+      }

@@ -1,0 +1,4 @@
+-- What the checks' contracts cite.
+pub mod Lent
+pub mod Answers
+pub mod Counted

@@ -1,0 +1,190 @@
+-- An input that is not refused: its tree, its events and its slices are what a run asks.
+-- Assumes nothing.
+use Prim.Native.Nat.{ℕ, zero, suc, _*_, _≤_, _<_}
+use mathlib.Core.Path.{_≡_, refl, sym, _∙_, ap}
+use mathlib.Core.Bool.{Bool, false, not, _||_}
+use mathlib.Core.List.{List}
+use native.Mathlib.Decide.{decLt, ℕ-discrete}
+use native.Mathlib.Omega.{arith}
+use lib.Dec.{eqb, ltb}
+use lib.ListN.{length, getD, set, length-replicate}
+use lib.Seq.{getD-set-other}
+use borrow.Author.Tests.{eqb-true, ltb-false, not-false}
+use Rattle.rules.specs.Limits.{most-rows, most-depth, whole, report-words}
+use Rattle.rules.specs.Classes.{Table, Tree, zeros, with-row, read, tree-of, parent-of, share, sends}
+use Rattle.rules.specs.Events.{Events, count}
+use Rattle.rules.specs.Refusals.{Room, nothing, given, first, first-below, rows-refused, events-refused, room-refused, root-refused, row-refused, shares-refused, table-refused, refused}
+use Rattle.laws.specs.Sound.{Sound}
+use Rattle.laws.specs.History.{Accepted}
+use Rattle.laws.proofs.Trees.{share-whole, accepted}
+use Rattle.laws.proofs.Outset.{zeros-at}
+use Rattle.counts.specs.Given.{Sending}
+use Rattle.checks.specs.Lent.{Sized}
+use Rattle.checks.specs.Answers.{senders-below}
+use Rattle.checks.specs.Counted.{Known, lengths-refused}
+use Rattle.checks.proofs.Firsts.{none-first, none-second, or-else-second, given-false, each-none}
+use Rattle.checks.proofs.Answering.{first-false, second-false, sized}
+use Rattle.checks.proofs.Trees.{filled, parent-read, rows-of, identifiers-of, earlier-within}
+use Rattle.checks.proofs.Rooted.{known}
+use Rattle.checks.proofs.Whole.{Listed, whole-listed}
+use Rattle.engine.specs.State.{tree-at, Fit}
+
+tree-parts : (t : Tree) (n : ℕ) (identifiers parents depths shares : List ℕ) → n ≡ t .rows → identifiers ≡ t .identifiers → parents ≡ t .parents
+    → depths ≡ t .depths → shares ≡ t .shares
+    → _≡_ {A = Tree} (record { rows = n; identifiers = identifiers; parents = parents; depths = depths; shares = shares }) t
+tree-parts t n identifiers parents depths shares r i p d s = rw (r, i, p, d, s)
+
+-- ── a table as it is read ──
+
+module _ (table : Table) where
+  -- a list that is written row by row has nothing from the last row on
+  unread : (list : Tree → List ℕ) (entry : ℕ → ℕ) → list (read table 0) ≡ zeros
+      → ((r : ℕ) → list (read table (suc r)) ≡ set (list (read table r)) r (entry r))
+      → (n j : ℕ) → n ≤ j → getD (list (read table n)) j 0 ≡ 0
+  unread list entry none next zero j beyond = rw none (zeros-at j)
+  unread list entry none next (suc n) j beyond =
+      rw (next n) (getD-set-other (list (read table n)) n j (entry n) 0 (omega arith) ∙ unread list entry none next n j (omega arith))
+
+  parents-unread : (n j : ℕ) → n ≤ j → getD (read table n .parents) j 0 ≡ 0
+  unfolding read with-row
+  parents-unread = unread (λ (tree : Tree). tree .parents) _ refl (λ r. refl)
+
+  depths-unread : (n j : ℕ) → n ≤ j → getD (read table n .depths) j 0 ≡ 0
+  unfolding read with-row
+  depths-unread = unread (λ (tree : Tree). tree .depths) _ refl (λ r. refl)
+
+  shares-unread : (n j : ℕ) → n ≤ j → getD (read table n .shares) j 0 ≡ 0
+  unfolding read with-row
+  shares-unread = unread (λ (tree : Tree). tree .shares) _ refl (λ r. refl)
+
+  abbrev rows : ℕ
+  rows = length (table .identifiers)
+
+  pub tree-rows : tree-of table .rows ≡ rows
+  unfolding tree-of
+  tree-rows = rows-of table rows
+
+  pub tree-names : tree-of table .identifiers ≡ table .identifiers
+  unfolding tree-of
+  tree-names = identifiers-of table rows
+
+  -- the arrays of a table that was read are its tree
+  pub same-tree : (parents depths shares : List ℕ) → parents ≡ tree-of table .parents → depths ≡ tree-of table .depths → shares ≡ tree-of table .shares
+      → tree-at (table .identifiers) parents depths shares ≡ tree-of table
+  same-tree parents depths shares p d s = tree-parts (tree-of table) rows (table .identifiers) parents depths shares (sym tree-rows) (sym tree-names) p d s
+
+  module _ (few : rows ≤ most-rows) where
+    parent-low : (r : ℕ) → r < rows → getD (tree-of table .parents) r 0 ≤ r
+    unfolding tree-of parent-of
+    parent-low r inside = rw (parent-read table rows r inside few) (earlier-within table r _ (omega arith))
+
+    parents-inside : (r : ℕ) → getD (tree-of table .parents) r 0 < most-rows
+    unfolding tree-of
+    parents-inside r = go (decLt r rows)
+      where
+        go : Dec (r < rows) → getD (tree-of table .parents) r 0 < most-rows
+        go (yes low) = omega (arith, parent-low r low)
+        go (no high) = omega (arith, parents-unread rows r (omega arith))
+
+  module _ (sound : Sound (tree-of table)) where
+    depths-low : (r : ℕ) → getD (tree-of table .depths) r 0 ≤ most-depth
+    unfolding tree-of
+    depths-low r = go (decLt r rows)
+      where
+        go : Dec (r < rows) → getD (tree-of table .depths) r 0 ≤ most-depth
+        go (yes low) = sound .shallow r (omega (arith, tree-rows))
+        go (no high) = omega (arith, depths-unread rows r (omega arith))
+
+    shares-low : getD (table .shares) 0 0 ≡ 0 → (r : ℕ) → getD (tree-of table .shares) r 0 ≤ whole
+    unfolding tree-of read with-row zeros
+    shares-low root zero =
+        let some : 0 < rows = omega (arith, tree-rows, sound .some-rows) in
+        let few : rows ≤ most-rows = omega (arith, tree-rows, sound .few-rows) in
+        rw (filled (λ n. read table n .shares) (λ r. getD (table .shares) r 0) (length-replicate {A = ℕ} most-rows 0) (λ n. refl) 0 rows 0 some few) (omega arith)
+    shares-low root (suc r) = go (decLt (suc r) rows)
+      where
+        go : Dec (suc r < rows) → getD (tree-of table .shares) (suc r) 0 ≤ whole
+        go (yes low) = share-whole (share (tree-of table) (suc r)) (sound .share-allowed (suc r) (omega arith) (omega (arith, tree-rows)))
+        go (no high) = omega (arith, shares-unread rows (suc r) (omega arith))
+
+-- ── an input that is not refused ──
+
+-- the slices have room for the results
+pub record Roomy (table : Table) (events : Events) (room : Room) : Type 0 where
+  pub order-room : count events ≤ room .order
+  pub working-room : count events ≤ room .working
+  pub report-room : report-words * length (table .identifiers) ≤ room .report
+  pub lags-room : length (table .identifiers) ≤ room .lags
+
+module _ (table : Table) (events : Events) (room : Room) (ok : refused table events room .number ≡ 0) where
+  rows-ok : rows-refused table .number ≡ 0
+  unfolding refused first
+  rows-ok = none-first (rows-refused table) _ ok
+
+  events-ok : events-refused events .number ≡ 0
+  unfolding refused first
+  events-ok = none-first (events-refused events) _ (none-second (rows-refused table) _ ok)
+
+  room-ok : room-refused table events room .number ≡ 0
+  unfolding refused first
+  room-ok = none-first (room-refused table events room) _ (none-second (events-refused events) _ (none-second (rows-refused table) _ ok))
+
+  table-ok : table-refused table .number ≡ 0
+  unfolding refused first
+  table-ok =
+      none-first (table-refused table) _
+      (none-second (room-refused table events room) _ (none-second (events-refused events) _ (none-second (rows-refused table) _ ok)))
+
+  lengths-ok : lengths-refused table events room .number ≡ 0
+  unfolding lengths-refused first nothing
+  lengths-ok =
+      rw (or-else-second (rows-refused table) _ rows-ok, or-else-second (events-refused events) _ events-ok, or-else-second (room-refused table events room) _ room-ok)
+
+  whole-table : Sized table
+  whole-table = sized table rows-ok
+
+  -- the root has no share
+  root-share : getD (table .shares) 0 0 ≡ 0
+  unfolding table-refused row-refused root-refused first
+  root-share =
+      let n = length (table .identifiers) in
+      let each = each-none (row-refused table) n (none-first (first-below (row-refused table) n) (first-below (shares-refused table) n) table-ok) 0 (whole-table .some) in
+      let a = not (eqb (getD (table .parents) 0 0) 0) in
+      let b = not (eqb (getD (table .shares) 0 0) 0) in
+      let both = given-false (a || b) 6 0 (omega arith) (none-first (given (a || b) 6 0) _ (none-second (given (eqb (getD (table .identifiers) 0 0) 0) 4 0) _ each)) in
+      eqb-true (getD (table .shares) 0 0) 0 (not-false (eqb (getD (table .shares) 0 0) 0) (second-false a b both))
+
+  pub fit : Fit (tree-of table) events
+  fit =
+      let all = accepted table events room ok in
+      let listed = whole-listed table events room lengths-ok in
+      record {
+        accepted = all;
+        as-long = listed .even;
+        few = listed .few;
+        inside = parents-inside table (whole-table .most);
+        root = omega (arith, parent-low table (whole-table .most) 0 (whole-table .some));
+        shallow = depths-low table (all .sound);
+        parts = shares-low table (all .sound) root-share;
+      }
+
+  pub roomy : Roomy table events room
+  unfolding room-refused
+  roomy =
+      let n = length (table .identifiers) in
+      let a = ltb (room .order) (count events) in
+      let b = ltb (room .working) (count events) in
+      let c = ltb (room .report) (report-words * n) in
+      let d = ltb (room .lags) n in
+      let all = given-false (a || b || c || d) 3 0 (omega arith) room-ok in
+      let three = first-false (a || b || c) d all in
+      let two = first-false (a || b) c three in
+      record {
+        order-room = ltb-false (room .order) (count events) (first-false a b two);
+        working-room = ltb-false (room .working) (count events) (second-false a b two);
+        report-room = ltb-false (room .report) (report-words * n) (second-false (a || b) c three);
+        lags-room = ltb-false (room .lags) n (second-false (a || b || c) d all);
+      }
+
+  pub sending : Sending (tree-of table) (length (table .identifiers)) (senders-below (tree-of table) (tree-of table .rows))
+  sending r inside = sym (known table whole-table table-ok .sending r inside)

@@ -1,0 +1,107 @@
+-- What a run leaves is the rules' outcome: of a refused input its refusal and all words as they were, else the results.
+-- Assumes nothing.
+use Prim.Native.Nat.{ℕ, _≤_}
+use mathlib.Core.Path.{_≡_, refl, sym, ap, _∙_, subst}
+use mathlib.Core.Logic.{_≢_}
+use mathlib.Core.List.{List}
+use lib.Dec.{eqb}
+use lib.ListN.{length, replicate}
+use lib.IntN.{ℤ}
+use borrow.Author.Tests.{eq-eqb, ne-eqb}
+use Rattle.rules.specs.declared.Refusal.{Refusal}
+use Rattle.rules.specs.declared.Answer.{Answer}
+use Rattle.rules.specs.Classes.{Table, Tree, tree-of}
+use Rattle.rules.specs.Events.{Events, count}
+use Rattle.rules.specs.Steps.{after}
+use Rattle.rules.specs.Refusals.{Room, refused}
+use Rattle.rules.specs.Outcome.{Lent, over, room-of, refusing, doing, outcome}
+use Rattle.counts.specs.Given.{Sending}
+use Rattle.checks.specs.declared.Reading.{Reading}
+use Rattle.checks.specs.Answers.{accepting, senders-below}
+use Rattle.checks.specs.Counted.{checked}
+use Rattle.checks.proofs.Answering.{answer-accepts}
+use Rattle.checks.proofs.Whole.{answer-refusal}
+use Rattle.engine.specs.State.{tree-at, Fit, Served}
+use Rattle.engine.specs.Run.{left-of}
+use Rattle.engine.proofs.Opening.{cleared-again}
+use Rattle.engine.proofs.Accepting.{same-tree, fit, sending, Roomy, roomy}
+
+module _ (lent : Lent) where
+  abbrev table : Table
+  table = lent .table
+
+  abbrev events : Events
+  events = lent .events
+
+  abbrev room : Room
+  room = room-of lent
+
+  refusal-outcome : (r : Refusal) → r ≡ refused table events room → r .number ≢ 0
+      → left-of (record { number = r .number; place = r .place; second = r .second; count = 0 }) (lent .order) (lent .report) (lent .lags) (lent .working)
+      ≡ outcome lent
+  unfolding outcome refusing
+  refusal-outcome r is some = rw (← is, ne-eqb (r .number) 0 some)
+
+  served-outcome : (tree : Tree) (sent : ℕ) (order report : List ℕ) (lags : List ℤ) (used working : List ℕ) → tree ≡ tree-of table
+      → refused table events room .number ≡ 0
+      → Served tree events sent (lent .order) order (lent .report) report (lent .lags) lags (lent .working) used
+      → working ≡ over (replicate (count events) 0) used
+      → left-of (record { number = 0; place = 0; second = 0; count = sent }) order report lags working ≡ outcome lent
+  unfolding outcome doing
+  served-outcome tree sent order report lags used working same none served cleared =
+      rw (
+        eq-eqb (refused table events room .number) 0 none,
+        served .sent-are,
+        served .order-is,
+        served .report-is,
+        served .lags-are,
+        cleared-again (count events) (lent .working) used working (served .working-rest) cleared,
+        same,
+      )
+
+  -- ── the check's answer ──
+
+  module _ (reading : Reading) (is : reading ≡ checked table events room) where
+    refusal-is : reading .refusal ≡ refused table events room
+    unfolding checked
+    refusal-is = ap (λ (r : Reading). r .refusal) is ∙ answer-refusal (refused table events room) (tree-of table)
+
+    pub refused-left : reading .refusal .number ≢ 0
+        → left-of (record { number = reading .refusal .number; place = reading .refusal .place; second = reading .refusal .second; count = 0 })
+        (lent .order) (lent .report) (lent .lags) (lent .working) ≡ outcome lent
+    refused-left some = refusal-outcome (reading .refusal) refusal-is some
+
+    module _ (none : reading .refusal .number ≡ 0) where
+      pub passed : refused table events room .number ≡ 0
+      passed = rw refusal-is at none
+
+      accepts : reading ≡ accepting (refused table events room) (tree-of table)
+      unfolding checked
+      accepts = is ∙ answer-accepts (refused table events room) (tree-of table) passed
+
+      -- the arrays are the table's tree
+      pub tree-is : tree-at (table .identifiers) (reading .parents) (reading .depths) (reading .shares) ≡ tree-of table
+      unfolding accepting
+      tree-is =
+          same-tree table (reading .parents) (reading .depths) (reading .shares) (ap (λ (r : Reading). r .parents) accepts)
+          (ap (λ (r : Reading). r .depths) accepts) (ap (λ (r : Reading). r .shares) accepts)
+
+      pub fit-is : Fit (tree-at (table .identifiers) (reading .parents) (reading .depths) (reading .shares)) events
+      fit-is = rw tree-is (fit table events room passed)
+
+      pub sending-is :
+          Sending (tree-at (table .identifiers) (reading .parents) (reading .depths) (reading .shares)) (length (table .identifiers)) (reading .senders)
+      unfolding accepting
+      sending-is = rw (tree-is, ap (λ (r : Reading). r .senders) accepts) (sending table events room passed)
+
+      pub roomy-is : Roomy table events room
+      roomy-is = roomy table events room passed
+
+      pub served-left :
+          (sent : ℕ) (order report : List ℕ) (lags : List ℤ) (used working : List ℕ)
+          → Served (tree-at (table .identifiers) (reading .parents) (reading .depths) (reading .shares)) events sent
+          (lent .order) order (lent .report) report (lent .lags) lags (lent .working) used
+          → working ≡ over (replicate (count events) 0) used
+          → left-of (record { number = 0; place = 0; second = 0; count = sent }) order report lags working ≡ outcome lent
+      served-left sent order report lags used working served cleared =
+          served-outcome (tree-at (table .identifiers) (reading .parents) (reading .depths) (reading .shares)) sent order report lags used working tree-is passed served cleared

@@ -1,0 +1,90 @@
+-- The run's first state and its last: arrays of zeros, a cleared working slice, and what is read of the box then.
+-- Assumes nothing.
+use Prim.Native.Nat.{ℕ, zero, suc, _≤_, _<_}
+use mathlib.Core.Path.{_≡_, refl, sym, ap, _∙_}
+use mathlib.Core.List.{List, [], _++_}
+use native.Mathlib.Omega.{arith}
+use lib.ListN.{length, getD, drop, replicate, length-replicate, List·getD-append}
+use lib.Seq.{drop-append-seam}
+use Rattle.rules.specs.Limits.{most-rows}
+use Rattle.rules.specs.Classes.{Tree, zeros}
+use Rattle.rules.specs.Events.{Events, count}
+use Rattle.rules.specs.Box.{Rows, Box, fresh, queue-of}
+use Rattle.rules.specs.Steps.{after}
+use Rattle.rules.specs.Outcome.{over}
+use Rattle.laws.specs.Sound.{Sender}
+use Rattle.laws.proofs.Outset.{zeros-at, empty-queue}
+use Rattle.laws.proofs.Trees.{zeros-full}
+use Rattle.hierarchy.specs.Arrays.{rows-of}
+use Rattle.counts.specs.Given.{Shown}
+use Rattle.engine.specs.Links.{last-word, Chain, Linked}
+use Rattle.engine.specs.State.{Now}
+
+-- ── a cleared slice ──
+
+replicate-zero : (n j : ℕ) → getD {A = ℕ} (replicate n 0) j 0 ≡ 0
+replicate-zero zero j = refl
+replicate-zero (suc n) zero = refl
+replicate-zero (suc n) (suc j) = replicate-zero n j
+
+cleared-at : (n j : ℕ) (lent : List ℕ) → j < n → getD (over (replicate n 0) lent) j 0 ≡ 0
+unfolding over
+cleared-at n j lent inside =
+    let size = length-replicate {A = ℕ} n 0 in
+    List·getD-append (replicate n 0) (drop (length (replicate n 0)) lent) 0 j (omega arith) ∙ replicate-zero n j
+
+pub cleared-rest : (n : ℕ) (lent cleared : List ℕ) → cleared ≡ over (replicate n 0) lent → drop n cleared ≡ drop n lent
+unfolding over
+cleared-rest n lent cleared is =
+    let size = length-replicate {A = ℕ} n 0 in
+    let zeroes : List ℕ = replicate n 0 in
+    rw is
+    (ap (λ (m : ℕ). drop m (zeroes ++ drop (length zeroes) lent)) (sym size)
+    ∙ drop-append-seam zeroes (drop (length zeroes) lent) ∙ ap (λ (m : ℕ). drop m lent) size)
+
+-- used in its first words and cleared, it is as if it had not been used
+pub cleared-again : (n : ℕ) (lent used cleared : List ℕ) → drop n used ≡ drop n lent → cleared ≡ over (replicate n 0) used
+    → cleared ≡ over (replicate n 0) lent
+unfolding over
+cleared-again n lent used cleared rest is =
+    let size = length-replicate {A = ℕ} n 0 in
+    is ∙ rw (size, rest)
+
+-- ── before the first event ──
+
+pub fresh-now : (tree : Tree) (events : Events) (lent links : List ℕ) → links ≡ over (replicate (count events) 0) lent
+    → Now tree events 0 0
+    (rows-of (replicate most-rows 0) (replicate most-rows 0) (replicate most-rows 0) (replicate most-rows 0) (replicate most-rows 0) (replicate most-rows 0))
+    (replicate most-rows 0) (replicate most-rows 0) (replicate most-rows 0) (replicate most-rows 0) (replicate most-rows 0) links
+unfolding after fresh zeros Chain last-word
+fresh-now tree events lent links cleared =
+    record {
+      rows-are = refl;
+      counts-are = record { bytes = refl; held = refl; since = refl; parent-since = refl };
+      sent-are = refl;
+      linked =
+          record {
+            lasts-full = zeros-full;
+            chains = λ k sender. rw (empty-queue k) tt;
+            lasts-are = λ k sender. rw (empty-queue k) (zeros-at k);
+            unlinked = λ j from below. rw cleared (cleared-at (count events) j lent below);
+          };
+    }
+
+pub fresh-order : (tree : Tree) (events : Events) (lent : List ℕ) → lent ≡ over (after tree events 0 .order) lent
+unfolding after fresh over
+fresh-order tree events lent = refl
+
+-- ── after the last event ──
+
+module _ (tree : Tree) (events : Events) (n sent : ℕ) (a : Rows) (bytes held since parent-since lasts links : List ℕ)
+    (now : Now tree events n sent a bytes held since parent-since lasts links) where
+  pub shown : Shown (after tree events n) (a .starts) (a .finishes) (a .virtuals) bytes held
+  shown =
+      record {
+        starts = ap (λ (rows : Rows). rows .starts) (now .rows-are);
+        finishes = ap (λ (rows : Rows). rows .finishes) (now .rows-are);
+        virtuals = ap (λ (rows : Rows). rows .virtuals) (now .rows-are);
+        bytes = now .counts-are .bytes;
+        held = now .counts-are .held;
+      }

@@ -1,0 +1,42 @@
+-- Words that name a packet, and words that name none.
+-- Assumes nothing.
+use Prim.Native.Nat.{ℕ, zero, suc, pred, _-_}
+use mathlib.Core.Path.{_≡_, refl}
+use mathlib.Core.Logic.{_≢_}
+use mathlib.Core.Bool.{Bool, true, false}
+use mathlib.Core.List.{List, [], _∷_}
+use native.Mathlib.Omega.{arith}
+use lib.ListN.{getD, set}
+use borrow.Author.Tests.{eq-eqb, ne-eqb}
+use Rattle.engine.specs.Links.{followed, shortened, length-of, sent-word}
+
+pub followed-some : (links : List ℕ) (n word : ℕ) → n ≢ 0 → followed links n word ≡ set links (n - 1) word
+unfolding followed
+followed-some links zero word some = absurd (some refl)
+followed-some links (suc n) word some = let same : suc n - 1 ≡ n = omega arith in rw same
+
+pub length-some : (lengths : List ℕ) (n : ℕ) → n ≢ 0 → length-of lengths n ≡ getD lengths (n - 1) 0
+unfolding length-of
+length-some lengths zero some = absurd (some refl)
+length-some lengths (suc n) some = let same : suc n - 1 ≡ n = omega arith in rw same
+
+pub shortened-none : (lasts : List ℕ) (k next : ℕ) → next ≡ 0 → shortened lasts k next ≡ set lasts k 0
+unfolding shortened
+shortened-none lasts k next none = rw (eq-eqb next 0 none)
+
+pub shortened-some : (lasts : List ℕ) (k next : ℕ) → next ≢ 0 → shortened lasts k next ≡ lasts
+unfolding shortened
+shortened-some lasts k next some = rw (ne-eqb next 0 some)
+
+pub sent-none : (idle : Bool) (head : ℕ) → head ≡ 0 → sent-word idle head ≡ []
+unfolding sent-word
+sent-none true head none = rw (eq-eqb head 0 none)
+sent-none false head none = refl
+
+pub sent-busy : (idle : Bool) (head : ℕ) → idle ≡ false → sent-word idle head ≡ []
+unfolding sent-word
+sent-busy idle head busy = rw busy
+
+pub sent-one : (idle : Bool) (head : ℕ) → idle ≡ true → head ≢ 0 → sent-word idle head ≡ (head - 1) ∷ []
+unfolding sent-word
+sent-one idle head idles some = let same : pred head ≡ head - 1 = omega arith in rw (idles, ne-eqb head 0 some, same)

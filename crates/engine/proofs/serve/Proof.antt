@@ -1,0 +1,175 @@
+-- `engine::serve` meets its contract. The loop's invariant: the arrays are the box after the events passed, and the order so far is written.
+-- Assumes nothing.
+use Prim.Native.Nat.{ℕ, _-_, _≤_}
+use mathlib.Core.Path.{_≡_, refl, sym, _∙_}
+use native.Mathlib.Numerals.{add-one}
+use native.Mathlib.Omega.{arith}
+use borrow.Author.Needs.{needs}
+use lib.ListN.{length, drop}
+use Rattle.rules.specs.Classes.{Tree}
+use Rattle.rules.specs.Events.{Events, count}
+use Rattle.rules.specs.Box.{Rows, Box}
+use Rattle.rules.specs.Steps.{after}
+use Rattle.rules.specs.Outcome.{over}
+use Rattle.hierarchy.specs.Arrays.{rows-of}
+use Rattle.checks.specs.Lent.{events-of}
+use Rattle.engine.specs.State.{tree-at, Fit, Now}
+use Rattle.engine.proofs.Fits.{past-now, bytes-now}
+use Rattle.engine.proofs.Opening.{cleared-rest, fresh-now, fresh-order, shown}
+use Rattle.engine.proofs.serve.Statement.{statement}
+use Rattle.engine.proofs.serve.Tie as tie
+
+abbrev Inv-loop : tie.InvT-loop
+Inv-loop identifiers classes lengths parents depths shares senders order₀ report lags working₀ starts₀ finishes₀ virtuals₀ heads₀ head-lengths₀ head-classes₀ bytes₀ held₀ since₀ parent-since₀ lasts₀ sent₀ i₀ order working starts finishes virtuals heads head-lengths head-classes bytes held since parent-since lasts sent i =
+    (i ≤ length classes)
+    × (length order ≡ length order₀)
+    × (length working ≡ length working₀)
+    × Now (tree-at identifiers parents depths shares) (events-of classes lengths) i sent (rows-of starts finishes virtuals heads head-lengths head-classes)
+    bytes held since parent-since lasts working
+    × (order ≡ over (after (tree-at identifiers parents depths shares) (events-of classes lengths) i .order) order₀)
+    × (drop (length classes) working ≡ drop (length classes) working₀)
+
+abbrev μ-loop : tie.MeasureT-loop
+μ-loop identifiers classes lengths parents depths shares senders order₀ report lags working₀ starts₀ finishes₀ virtuals₀ heads₀ head-lengths₀ head-classes₀ bytes₀ held₀ since₀ parent-since₀ lasts₀ sent₀ i₀ order working starts finishes virtuals heads head-lengths head-classes bytes held since parent-since lasts sent i = length classes - i
+
+-- ── what is lent ──
+
+module _ (s : tie.Start Inv-loop μ-loop) where
+  abbrev tree : Tree
+  tree = tree-at (s .args .identifiers .now) (s .args .parents .now) (s .args .depths .now) (s .args .shares .now)
+
+  abbrev events : Events
+  events = events-of (s .args .classes .now) (s .args .lengths .now)
+
+  fit : Fit tree events
+  fit = s .pre .0
+
+  order-room : length (s .args .classes .now) ≤ length (s .args .order .now)
+  order-room = s .pre .1 .1 .0
+
+  working-room : length (s .args .classes .now) ≤ length (s .args .working .now)
+  working-room = s .pre .1 .1 .1 .0
+
+-- ── the loop ──
+
+module _ (l : tie.At-loop Inv-loop μ-loop) where
+  abbrev start : tie.Start Inv-loop μ-loop
+  start = l .before .before .before .before .before .before .before .before .before .before .before
+
+  abbrev rows : Rows
+  rows = rows-of (l .loop .starts) (l .loop .finishes) (l .loop .virtuals) (l .loop .heads) (l .loop .head-lengths) (l .loop .head-classes)
+
+  working-length : length (l .loop .working) ≡ length (start .args .working .now)
+  working-length = l .loop .inv .2 ∙ l .before .before .before .clear .kept .0
+
+-- after it: the box of the last event
+module _ (a : tie.After-loop Inv-loop μ-loop) where
+  abbrev at : tie.At-loop Inv-loop μ-loop
+  at = a .before
+
+  abbrev begun : tie.Start Inv-loop μ-loop
+  begun = start at
+
+  abbrev box : Box
+  box = after (tree begun) (events begun) (count (events begun))
+
+  end : at .loop .i ≡ count (events begun)
+  end = omega (arith, a .loop-test .left, at .loop .inv .0)
+
+  last :
+      Now (tree begun) (events begun) (count (events begun)) (at .loop .sent) (rows at) (at .loop .bytes) (at .loop .held) (at .loop .since) (at .loop .parent-since)
+      (at .loop .lasts) (at .loop .working)
+  last = rw (← end) (at .loop .inv .3)
+
+-- ── the needs ──
+
+clear-requires : tie.Need-clear-requires Inv-loop μ-loop
+clear-requires c κs = working-room (c .before .before .before .before .before .before .before)
+
+loop-holds : tie.Need-loop-holds Inv-loop μ-loop
+loop-holds c =
+    let s = c .before .before .before .before .before .before .before .before .before .before in
+    (omega arith, refl, refl, fresh-now (tree s) (events s) _ _ (c .before .before .clear .ensures), fresh-order (tree s) (events s) _, refl)
+
+step-requires : tie.Need-step-requires Inv-loop μ-loop
+step-requires c κs =
+    let l = c .before .before .before .before .before .before .before .before .before .before .before .before .before .before in
+    let s = start l in (
+      fit s,
+      (
+        c .before .before .before .before .before .before .before .before .before .before .before .before .before .loop-test .taken,
+        (omega (arith, l .loop .inv .1, order-room s), (omega (arith, working-length l, working-room s), l .loop .inv .3)),
+      ),
+    )
+
+add-i : tie.Need-add-i Inv-loop μ-loop
+add-i c =
+    let l = c .before .before .before .before .before .before .before .before .before .before .before .before .before .before .before .before .before .before .before in
+    omega (arith, c .before .before .before .before .before .before .before .before .before .before .before .before .before .before .before .before .before .before .loop-test .taken, fit (start l) .few)
+
+loop-less : tie.Need-loop-less Inv-loop μ-loop
+loop-less c = let l = c .before .before .before .before .before .before .before .before .before .before .before .before .before .before .before .before .before .before .before in omega (arith, c .before .before .before .before .before .before .before .before .before .before .before .before .before .before .before .before .before .before .loop-test .taken)
+
+loop-again : tie.Need-loop-again Inv-loop μ-loop
+loop-again c =
+    let l = c .before .before .before .before .before .before .before .before .before .before .before .before .before .before .before .before .before .before .before in
+    let done = c .before .before .before .before .step in (
+      omega (arith, c .before .before .before .before .before .before .before .before .before .before .before .before .before .before .before .before .before .before .loop-test .taken),
+      done .kept .1 .1 .1 .1 .1 .1 .1 .1 .1 .1 .1 .1 .1 .1 .1 .1 .1 .0 ∙ l .loop .inv .1,
+      done .kept .1 .1 .1 .1 .1 .1 .1 .1 .1 .1 .1 .1 .1 .1 .1 .1 .1 .1 .0 ∙ l .loop .inv .2,
+      rw add-one (done .ensures .0),
+      rw add-one (done .ensures .1 .1 _ (sym (l .loop .inv .1)) (l .loop .inv .4)),
+      done .ensures .1 .0 ∙ l .loop .inv .5,
+    )
+
+write-report-requires : tie.Need-write-report-requires Inv-loop μ-loop
+write-report-requires c κs =
+    let s = begun (c .before .before .before .before .before .before) in
+    (fit s .accepted .sound .few-rows, s .pre .1 .1 .1 .1 .0)
+
+write-lags-requires : tie.Need-write-lags-requires Inv-loop μ-loop
+write-lags-requires c κs =
+    let a = c .before .before .before .before .before .before .before .before .before .before .before .before .before .before in
+    let s = begun a in (
+      fit s .accepted .sound .few-rows,
+      (
+        s .pre .1 .1 .1 .1 .1,
+        (
+          (λ r inside. omega (arith, fit s .inside r)),
+          (
+            (λ r inside. fit s .parts r),
+            (bytes-now (tree s) (events s) (fit s) _ _ _ _ _ _ _ _ (last a), past-now (tree s) (events s) (fit s) _ _ _ _ _ _ _ _ (last a)),
+          ),
+        ),
+      ),
+    )
+
+same-length : tie.Need-same-length Inv-loop μ-loop
+same-length c = at (c .before .before .before .before .before .before .before .before .before .before .before .before .before .before .before .before) .loop .inv .1
+
+same-length-2 : tie.Need-same-length-2 Inv-loop μ-loop
+same-length-2 c = c .before .before .before .before .before .before .before .before .before .write-report .kept .1 .1 .1 .1 .1 .1 .1 .0
+
+same-length-3 : tie.Need-same-length-3 Inv-loop μ-loop
+same-length-3 c = c .before .write-lags .kept .1 .1 .1 .1 .1 .1 .1 .0
+
+same-length-4 : tie.Need-same-length-4 Inv-loop μ-loop
+same-length-4 c = working-length (at (c .before .before .before .before .before .before .before .before .before .before .before .before .before .before .before .before))
+
+returns : tie.Need-returns Inv-loop μ-loop
+returns c =
+    let a = c .before .before .before .before .before .before .before .before .before .before .before .before .before .before .before .before in
+    let s = begun a in
+    record {
+      sent-are = last a .sent-are;
+      order-is = rw (← end a) (at a .loop .inv .4);
+      report-is = c .before .before .before .before .before .before .before .before .before .write-report .ensures (tree s) (box a) (s .pre .1 .0) (shown (tree s) (events s) _ _ _ _ _ _ _ _ _ (last a));
+      lags-are = c .before .write-lags .ensures (tree s) (box a) (record { parents = refl; shares = refl }) (last a .counts-are);
+      working-rest = at a .loop .inv .5 ∙ cleared-rest (count (events s)) (s .args .working .now) _ (at a .before .before .before .clear .ensures);
+    }
+
+pub serve-spec : {M : Type 1} → statement M
+serve-spec =
+    tie.close
+    (tie.spec Inv-loop μ-loop clear-requires loop-holds step-requires add-i loop-less loop-again write-report-requires write-lags-requires same-length
+    same-length-2 same-length-3 same-length-4 returns)

@@ -1,0 +1,60 @@
+-- What the arrays of a run hold before each event, and what its steps ask of them.
+use Prim.Native.Nat.{ℕ, _≤_, _^_}
+use mathlib.Core.Path.{_≡_}
+use mathlib.Core.List.{List}
+use lib.ListN.{length, getD, drop}
+use lib.IntN.{ℤ}
+use Rattle.rules.specs.Limits.{most-rows, most-depth, most-events, whole}
+use Rattle.rules.specs.Classes.{Tree}
+use Rattle.rules.specs.Events.{Events, count}
+use Rattle.rules.specs.Box.{Rows}
+use Rattle.rules.specs.Steps.{after}
+use Rattle.rules.specs.Outcome.{report-of, lags-of, over}
+use Rattle.laws.specs.History.{Accepted}
+use Rattle.hierarchy.specs.Arrays.{Inside}
+use Rattle.hierarchy.specs.Sizes.{Small}
+use Rattle.counts.specs.Given.{At-most, Counts}
+use Rattle.engine.specs.Links.{Linked}
+
+-- the tree of a table that was read
+abbrev pub tree-at : List ℕ → List ℕ → List ℕ → List ℕ → Tree
+tree-at identifiers parents depths shares =
+    record { rows = length identifiers; identifiers = identifiers; parents = parents; depths = depths; shares = shares }
+
+-- an input that is not refused, with what its rows have that no class has: a parent, a depth and a share of 0
+pub record Fit (tree : Tree) (events : Events) : Type 0 where
+  pub accepted : Accepted tree events (count events)
+  pub as-long : length (events .lengths) ≡ count events
+  pub few : count events ≤ most-events
+  pub inside : Inside (tree .parents)
+  pub root : getD (tree .parents) 0 0 ≡ 0
+  pub shallow : (r : ℕ) → getD (tree .depths) r 0 ≤ most-depth
+  pub parts : (r : ℕ) → getD (tree .shares) r 0 ≤ whole
+
+-- what the steps ask so that no index is out of range and no sum wraps
+pub record Ready (rows : ℕ) (parents depths : List ℕ) (a : Rows) (bytes held : List ℕ) : Type 0 where
+  pub few : rows ≤ most-rows
+  pub inside : Inside parents
+  pub shallow : (r : ℕ) → getD depths r 0 ≤ most-depth
+  pub small : Small a
+  pub bytes-small : At-most (2 ^ 40) bytes
+  pub held-small : At-most (2 ^ 31) held
+
+-- before the event at place i the arrays are those of the box, and so many packets went on the line
+pub record Now
+    (tree : Tree) (events : Events) (i sent : ℕ) (a : Rows) (bytes held since parent-since lasts links : List ℕ) : Type 0 where
+  pub rows-are : after tree events i .rows ≡ a
+  pub counts-are : Counts (after tree events i) bytes held since parent-since
+  pub sent-are : sent ≡ length (after tree events i .order)
+  pub linked : Linked tree events i (after tree events i) lasts links
+
+-- after the last event: so many packets went on the line, the results are what the rules say, and of the working slice the words
+-- from the number of events on are as they were
+pub record Served
+    (tree : Tree) (events : Events) (sent : ℕ) (order order′ report report′ : List ℕ) (lags lags′ : List ℤ) (working working′ : List ℕ)
+    : Type 0 where
+  pub sent-are : sent ≡ length (after tree events (count events) .order)
+  pub order-is : order′ ≡ over (after tree events (count events) .order) order
+  pub report-is : report′ ≡ over (report-of tree (after tree events (count events)) (tree .rows)) report
+  pub lags-are : lags′ ≡ over (lags-of tree (after tree events (count events)) (tree .rows)) lags
+  pub working-rest : drop (count events) working′ ≡ drop (count events) working

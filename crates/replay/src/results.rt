@@ -1,0 +1,124 @@
+// The answer and the results as text.
+use crate::output::Sink;
+use crate::output::flush;
+use crate::output::onto;
+use crate::output::put_byte;
+use crate::output::put_number;
+use crate::output::put_signed;
+use crate::output::put_text;
+use crate::output::put_word;
+use libc::STDOUT_FILENO;
+use rules::Answer;
+
+// Prints the answer and, of a done run, the results, and answers whether all of it was written.
+pub fn print<'a>(
+    answer: Answer,
+    identifiers: &'a [u32],
+    order: &'a [u32],
+    report: &'a [u64],
+    lags: &'a [i64],
+) -> bool {
+    let mut out = [0u8; 8192];
+    let sink = put_answer(&mut out, onto(STDOUT_FILENO), answer);
+    if answer.number != 0 {
+        let refused = flush(&mut out, sink);
+        return refused.good;
+    }
+    let sink = put_order(&mut out, sink, order, answer.count);
+    let sink = put_rows(&mut out, sink, identifiers, report, lags);
+    let done = flush(&mut out, sink);
+    done.good
+}
+
+fn put_answer(out: &mut [u8; 8192], sink: Sink, answer: Answer) -> Sink {
+    let sink = put_text(out, sink, b"answer,place,second,count\n");
+    let sink = put_then(out, sink, answer.number, 44);
+    let sink = put_then(out, sink, answer.place, 44);
+    let sink = put_then(out, sink, answer.second, 44);
+    put_then(out, sink, answer.count, 10)
+}
+
+// A number, and the byte after it.
+fn put_then(out: &mut [u8; 8192], sink: Sink, n: u32, byte: u8) -> Sink {
+    let sink = put_word(out, sink, n);
+    put_byte(out, sink, byte)
+}
+
+fn put_order(out: &mut [u8; 8192], sink: Sink, order: &[u32], count: u32) -> Sink {
+    let mut sink = put_text(out, sink, b"order\n");
+    let mut i = 0;
+    while i < order.len() {
+        if count as usize <= i {
+            return sink;
+        }
+        sink = put_then(out, sink, order[i], 10);
+        i += 1;
+    }
+    sink
+}
+
+fn put_rows(
+    out: &mut [u8; 8192],
+    sink: Sink,
+    identifiers: &[u32],
+    report: &[u64],
+    lags: &[i64],
+) -> Sink {
+    let mut sink = put_text(
+        out,
+        sink,
+        b"identifier,bytes,start,finish,virtual,held,lag\n",
+    );
+    let mut i = 0;
+    while i < identifiers.len() {
+        sink = put_row(out, sink, identifiers[i], report, lags, i);
+        i += 1;
+    }
+    sink
+}
+
+fn put_row(
+    out: &mut [u8; 8192],
+    sink: Sink,
+    identifier: u32,
+    report: &[u64],
+    lags: &[i64],
+    row: usize,
+) -> Sink {
+    let sink = put_then(out, sink, identifier, 44);
+    let sink = put_report(out, sink, report, row);
+    let sink = put_signed(out, sink, lag(lags, row));
+    put_byte(out, sink, 10)
+}
+
+// A row's five numbers of the report, with a comma after each.
+fn put_report(out: &mut [u8; 8192], sink: Sink, report: &[u64], row: usize) -> Sink {
+    let mut sink = sink;
+    let mut j = 0;
+    while j < 5 {
+        sink = put_number(out, sink, word(report, row, j));
+        sink = put_byte(out, sink, 44);
+        j += 1;
+    }
+    sink
+}
+
+// A row's number of the report, 0 past its end.
+fn word(report: &[u64], row: usize, j: usize) -> u64 {
+    if row < 257 {
+        if j < 5 {
+            let at = row * 5 + j;
+            if at < report.len() {
+                return report[at];
+            }
+        }
+    }
+    0
+}
+
+fn lag(lags: &[i64], row: usize) -> i64 {
+    if row < lags.len() {
+        return lags[row];
+    }
+    0
+}

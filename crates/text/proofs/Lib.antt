@@ -1,0 +1,3 @@
+-- What is proved of reading apart from the code.
+pub mod Fields
+pub mod Worked
