@@ -2,7 +2,9 @@
 
 use std::collections::BTreeSet;
 
-use crate::common::lists::{random_events, random_table, Random};
+use second::trials::Random;
+
+use crate::common::lists::{random_events, random_table};
 use crate::common::{accepted, Columns, Event, Lending, Outcome, Row, FINISH};
 
 const LISTS: u64 = 3000;
@@ -29,7 +31,7 @@ struct Trace {
 /// Shows each list in turn to a check.
 fn each_list(check: fn(&mut Case)) {
     for seed in 1..=LISTS {
-        let mut random = Random(seed.wrapping_mul(0x9E37_79B9_7F4A_7C15));
+        let mut random = Random::new(840, seed);
         let rows = random_table(&mut random);
         let events = random_events(&rows, &mut random);
         let outcome = accepted(&rows, &events);
@@ -211,7 +213,7 @@ fn a_waiting_class_gets_its_part_of_the_whole_line() {
 
 #[test]
 fn any_numbers_are_answered_and_a_refusal_writes_nothing() {
-    let mut random = Random(0x1234_5678_9ABC_DEF1);
+    let mut random = Random::new(840, 0);
     let mut numbers = BTreeSet::new();
     for _ in 0..30_000 {
         let columns = careless_columns(&mut random);

@@ -1,31 +1,8 @@
 //! Random tables and event lists, the same for the same seed.
 
+use second::trials::Random;
+
 use super::{Event, Row, FINISH, ROOT};
-
-/// A xorshift generator; the seed must not be 0.
-pub struct Random(pub u64);
-
-impl Random {
-    fn next(&mut self) -> u64 {
-        self.0 ^= self.0 << 13;
-        self.0 ^= self.0 >> 7;
-        self.0 ^= self.0 << 17;
-        self.0
-    }
-
-    /// A number under the limit, which must not be 0.
-    pub fn below(&mut self, limit: usize) -> usize {
-        (self.next() >> 11) as usize % limit
-    }
-
-    pub fn between(&mut self, least: usize, most: usize) -> usize {
-        least + self.below(most - least + 1)
-    }
-
-    pub fn one_in(&mut self, chance: usize) -> bool {
-        self.below(chance) == 0
-    }
-}
 
 #[derive(Clone, Copy)]
 enum Shape {
