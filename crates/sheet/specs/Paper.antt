@@ -1,0 +1,74 @@
+-- The number of the promise as it is worked out in 64-bit words: a fraction in lowest terms for as long as it fits them.
+use Prim.Native.Nat.{ℕ, zero, suc, _+_, _*_, _/_, _%_, _^_}
+use mathlib.Core.Bool.{Bool, true, false, cond, not, _&&_}
+use mathlib.Core.List.{List}
+use lib.Dec.{ltb, eqb}
+use lib.ListN.{getD}
+use Rattle.rules.specs.Limits.{whole}
+use Rattle.rules.specs.Promise.{Ratio}
+use Rattle.sheet.specs.declared.Figure.{Figure}
+
+-- ── lowest terms ──
+
+abbrev pub over : ℕ → ℕ → Ratio
+over numerator denominator = record { numerator = numerator; denominator = denominator }
+
+unfoldable pub divides-both : ℕ → ℕ → ℕ → Bool
+divides-both a b d = eqb (a % d) 0 && eqb (b % d) 0
+
+-- the greatest number up to n that divides both a and b; 1 where there is none
+unfoldable pub greatest : ℕ → ℕ → ℕ → ℕ
+greatest a b zero = 1
+greatest a b (suc n) = elim (divides-both a b (suc n)) [ true ↦ suc n | false ↦ greatest a b n ]
+
+-- both parts divided by the greatest number that divides them
+unfoldable pub lowest : Ratio → Ratio
+lowest q =
+    let by = greatest (q .numerator) (q .denominator) (q .denominator) in
+    over (q .numerator / by) (q .denominator / by)
+
+-- ── figures ──
+
+-- the numbers that a word holds are below this
+abbrev pub limit : ℕ
+limit = 2 ^ 64
+
+abbrev pub figure : Ratio → Figure
+figure q = record { fits = true; numerator = q .numerator; denominator = q .denominator }
+
+abbrev pub outgrown : Figure
+outgrown = record { fits = false; numerator = 0; denominator = 0 }
+
+-- the lowest terms of what fits two words
+unfoldable pub fitting : Ratio → Figure
+fitting q = elim (ltb (q .numerator) limit && ltb (q .denominator) limit) [ true ↦ figure (lowest q) | false ↦ outgrown ]
+
+-- ── steps up ──
+
+-- three largest packets more, times a fraction
+unfoldable pub raised : ℕ → Ratio → Figure → Ratio
+raised largest part from =
+    over ((from .numerator + 3 * largest * from .denominator) * part .numerator) (from .denominator * part .denominator)
+
+-- one step up from a row with this share: three largest packets more, times the whole over the share. What is outgrown stays so,
+-- and over a share of 0 there is no figure
+unfoldable pub stepped : ℕ → ℕ → Figure → Figure
+stepped largest share from =
+    elim (from .fits && not (eqb share 0)) [ true ↦ fitting (raised largest (lowest (over whole share)) from) | false ↦ outgrown ]
+
+-- so many steps up from a row
+unfoldable pub climbing : ℕ → List ℕ → List ℕ → ℕ → ℕ → Figure → Figure
+climbing zero parents shares largest row from = from
+climbing (suc n) parents shares largest row from =
+    climbing n parents shares largest (getD parents row 0) (stepped largest (getD shares row 0) from)
+
+-- so many steps up from a row's own bytes
+unfoldable pub worked : ℕ → List ℕ → List ℕ → ℕ → ℕ → ℕ → Figure
+worked steps parents shares largest row own = climbing steps parents shares largest row (figure (over own 1))
+
+-- ── whole bytes ──
+
+-- a fraction rounded up; 0 for a denominator of 0
+unfoldable pub rounded-up : ℕ → ℕ → ℕ
+rounded-up numerator denominator =
+    cond (eqb denominator 0) 0 (numerator / denominator + cond (eqb (numerator % denominator) 0) 0 1)
