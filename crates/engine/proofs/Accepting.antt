@@ -27,7 +27,7 @@ use Rattle.checks.proofs.Answering.{first-false, second-false, sized}
 use Rattle.checks.proofs.Trees.{filled, parent-read, rows-of, identifiers-of, earlier-within}
 use Rattle.checks.proofs.Rooted.{known}
 use Rattle.checks.proofs.Whole.{Listed, whole-listed}
-use Rattle.engine.specs.State.{tree-at, Fit}
+use Rattle.events.specs.State.{tree-at, Fit}
 
 tree-parts : (t : Tree) (n : ℕ) (identifiers parents depths shares : List ℕ) → n ≡ t .rows → identifiers ≡ t .identifiers → parents ≡ t .parents
     → depths ≡ t .depths → shares ≡ t .shares

@@ -21,7 +21,8 @@ use Rattle.checks.specs.Answers.{accepting, senders-below}
 use Rattle.checks.specs.Counted.{checked}
 use Rattle.checks.proofs.Answering.{answer-accepts}
 use Rattle.checks.proofs.Whole.{answer-refusal}
-use Rattle.engine.specs.State.{tree-at, Fit, Served}
+use Rattle.events.specs.State.{tree-at, Fit}
+use Rattle.engine.specs.Served.{Served}
 use Rattle.engine.specs.Run.{left-of}
 use Rattle.engine.proofs.Opening.{cleared-again}
 use Rattle.engine.proofs.Accepting.{same-tree, fit, sending, Roomy, roomy}

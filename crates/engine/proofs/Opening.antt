@@ -17,8 +17,8 @@ use Rattle.laws.proofs.Outset.{zeros-at, empty-queue}
 use Rattle.laws.proofs.Trees.{zeros-full}
 use Rattle.hierarchy.specs.Arrays.{rows-of}
 use Rattle.counts.specs.Given.{Shown}
-use Rattle.engine.specs.Links.{last-word, Chain, Linked}
-use Rattle.engine.specs.State.{Now}
+use Rattle.events.specs.Links.{last-word, Chain, Linked}
+use Rattle.events.specs.State.{Now}
 
 -- ── a cleared slice ──
 

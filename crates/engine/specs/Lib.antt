@@ -1,4 +1,3 @@
 -- What the run's contracts speak of beside the rules.
-pub mod Links
-pub mod State
+pub mod Served
 pub mod Run

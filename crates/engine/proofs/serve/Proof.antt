@@ -13,8 +13,8 @@ use Rattle.rules.specs.Steps.{after}
 use Rattle.rules.specs.Outcome.{over}
 use Rattle.hierarchy.specs.Arrays.{rows-of}
 use Rattle.checks.specs.Lent.{events-of}
-use Rattle.engine.specs.State.{tree-at, Fit, Now}
-use Rattle.engine.proofs.Fits.{past-now, bytes-now}
+use Rattle.events.specs.State.{tree-at, Fit, Now}
+use Rattle.events.proofs.Fits.{past-now, bytes-now}
 use Rattle.engine.proofs.Opening.{cleared-rest, fresh-now, fresh-order, shown}
 use Rattle.engine.proofs.serve.Statement.{statement}
 use Rattle.engine.proofs.serve.Tie as tie

@@ -21,9 +21,9 @@ use Rattle.laws.proofs.OneEvent.{line-class, mark-most, arrival-parent-since, d
 use Rattle.laws.proofs.Sizes.{tags-below, heads-below, bytes-below, held-below, since-below, parent-since-below}
 use Rattle.hierarchy.specs.Sizes.{Small}
 use Rattle.counts.specs.Given.{At-most, Past}
-use Rattle.engine.specs.State.{Fit, Ready, Now}
-use Rattle.engine.proofs.Few.{few, kept-few}
-use Rattle.engine.proofs.Beyond.{nothing-beyond}
+use Rattle.events.specs.State.{Fit, Ready, Now}
+use Rattle.events.proofs.Few.{few, kept-few}
+use Rattle.events.proofs.Beyond.{nothing-beyond}
 
 module _ (tree : Tree) (events : Events) (fit : Fit tree events) (i : ℕ) (before : i ≤ count events) where
   abbrev box : Box

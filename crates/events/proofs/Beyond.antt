@@ -27,7 +27,7 @@ use Rattle.laws.proofs.Rising.{rises}
 use Rattle.laws.proofs.Turns.{fewer, turn}
 use Rattle.laws.proofs.Outset.{zeros-at}
 use Rattle.laws.proofs.OneEvent.{line-class, left, line-sender}
-use Rattle.engine.proofs.Few.{kept-few, few}
+use Rattle.events.proofs.Few.{kept-few, few}
 
 -- the box has nothing in row j
 pub record Nothing (box : Box) (j : ℕ) : Type 0 where

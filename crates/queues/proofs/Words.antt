@@ -8,7 +8,7 @@ use mathlib.Core.List.{List, [], _∷_}
 use native.Mathlib.Omega.{arith}
 use lib.ListN.{getD, set}
 use borrow.Author.Tests.{eq-eqb, ne-eqb}
-use Rattle.engine.specs.Links.{followed, shortened, length-of, sent-word}
+use Rattle.queues.specs.Words.{followed, shortened, length-of, sent-word}
 
 pub followed-some : (links : List ℕ) (n word : ℕ) → n ≢ 0 → followed links n word ≡ set links (n - 1) word
 unfolding followed

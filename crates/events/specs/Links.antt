@@ -1,11 +1,9 @@
 -- Queues as links: for each packet a word, the next packet of its class, and for each class a word, the last packet of its queue.
 -- A word is a packet's place + 1, and 0 where there is none.
-use Prim.Native.Nat.{ℕ, zero, suc, pred, _≤_, _<_}
+use Prim.Native.Nat.{ℕ, suc, _≤_, _<_}
 use mathlib.Core.Path.{_≡_}
-use mathlib.Core.Bool.{Bool, cond, not, _&&_}
 use mathlib.Core.List.{List, [], _∷_}
-use lib.Dec.{eqb}
-use lib.ListN.{length, getD, set}
+use lib.ListN.{length, getD}
 use Rattle.rules.specs.Limits.{most-rows}
 use Rattle.rules.specs.Classes.{Tree, row-of}
 use Rattle.rules.specs.Events.{Events, count, class-word, length-word}
@@ -23,24 +21,6 @@ unfoldable pub last-word : List Packet → ℕ
 last-word [] = 0
 last-word (packet ∷ []) = suc (packet .place)
 last-word (packet ∷ next ∷ later) = last-word (next ∷ later)
-
--- the packet named by a word is followed by another; no packet, no link
-unfoldable pub followed : List ℕ → ℕ → ℕ → List ℕ
-followed links zero word = links
-followed links (suc place) word = set links place word
-
--- class k's queue has no last packet where its first has no next
-unfoldable pub shortened : List ℕ → ℕ → ℕ → List ℕ
-shortened lasts k next = cond (eqb next 0) (set lasts k 0) lasts
-
--- the length of the packet that a word names
-unfoldable pub length-of : List ℕ → ℕ → ℕ
-length-of lengths zero = 0
-length-of lengths (suc place) = getD lengths place 0
-
--- what goes on a line that is idle or not, where this is the root's head
-unfoldable pub sent-word : Bool → ℕ → List ℕ
-sent-word idle head = cond (idle && not (eqb head 0)) (pred head ∷ []) []
 
 -- ── chains ──
 

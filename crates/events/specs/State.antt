@@ -2,19 +2,17 @@
 use Prim.Native.Nat.{ℕ, _≤_, _^_}
 use mathlib.Core.Path.{_≡_}
 use mathlib.Core.List.{List}
-use lib.ListN.{length, getD, drop}
-use lib.IntN.{ℤ}
+use lib.ListN.{length, getD}
 use Rattle.rules.specs.Limits.{most-rows, most-depth, most-events, whole}
 use Rattle.rules.specs.Classes.{Tree}
 use Rattle.rules.specs.Events.{Events, count}
 use Rattle.rules.specs.Box.{Rows}
 use Rattle.rules.specs.Steps.{after}
-use Rattle.rules.specs.Outcome.{report-of, lags-of, over}
 use Rattle.laws.specs.History.{Accepted}
 use Rattle.hierarchy.specs.Arrays.{Inside}
 use Rattle.hierarchy.specs.Sizes.{Small}
 use Rattle.counts.specs.Given.{At-most, Counts}
-use Rattle.engine.specs.Links.{Linked}
+use Rattle.events.specs.Links.{Linked}
 
 -- the tree of a table that was read
 abbrev pub tree-at : List ℕ → List ℕ → List ℕ → List ℕ → Tree
@@ -47,14 +45,3 @@ pub record Now
   pub counts-are : Counts (after tree events i) bytes held since parent-since
   pub sent-are : sent ≡ length (after tree events i .order)
   pub linked : Linked tree events i (after tree events i) lasts links
-
--- after the last event: so many packets went on the line, the results are what the rules say, and of the working slice the words
--- from the number of events on are as they were
-pub record Served
-    (tree : Tree) (events : Events) (sent : ℕ) (order order′ report report′ : List ℕ) (lags lags′ : List ℤ) (working working′ : List ℕ)
-    : Type 0 where
-  pub sent-are : sent ≡ length (after tree events (count events) .order)
-  pub order-is : order′ ≡ over (after tree events (count events) .order) order
-  pub report-is : report′ ≡ over (report-of tree (after tree events (count events)) (tree .rows)) report
-  pub lags-are : lags′ ≡ over (lags-of tree (after tree events (count events)) (tree .rows)) lags
-  pub working-rest : drop (count events) working′ ≡ drop (count events) working

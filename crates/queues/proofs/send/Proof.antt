@@ -1,11 +1,11 @@
--- `engine::send` meets its contract: a word is written where the line is idle and there is a head, else none.
+-- `queues::send` meets its contract: a word is written where the line is idle and there is a head, else none.
 -- Assumes nothing.
 use borrow.Author.Needs.{needs}
 use mathlib.Core.Path.{refl}
 use native.Mathlib.Omega.{arith}
-use Rattle.engine.proofs.Words.{sent-none, sent-busy, sent-one}
-use Rattle.engine.proofs.send.Statement.{statement}
-use Rattle.engine.proofs.send.Tie as tie
+use Rattle.queues.proofs.Words.{sent-none, sent-busy, sent-one}
+use Rattle.queues.proofs.send.Statement.{statement}
+use Rattle.queues.proofs.send.Tie as tie
 
 returns : tie.Need-returns
 returns c =

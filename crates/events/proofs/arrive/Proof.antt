@@ -1,10 +1,10 @@
--- `engine::arrive` meets its contract: the rows' change and the counts' change are those of the rules' arrival.
+-- `events::arrive` meets its contract: the rows' change and the counts' change are those of the rules' arrival.
 -- Assumes nothing.
 use mathlib.Core.Path.{sym, refl}
 use native.Mathlib.Omega.{arith}
 use Rattle.rules.specs.Steps.{arrival}
-use Rattle.engine.proofs.arrive.Statement.{statement}
-use Rattle.engine.proofs.arrive.Tie as tie
+use Rattle.events.proofs.arrive.Statement.{statement}
+use Rattle.events.proofs.arrive.Tie as tie
 
 arrive-requires : tie.Need-arrive-requires
 arrive-requires c κs =

@@ -31,11 +31,12 @@ use Rattle.laws.proofs.OneEvent.{line-class, left, line-sender, left-line}
 use Rattle.laws.proofs.Keeping.{class-head}
 use Rattle.hierarchy.specs.Next.{next-of}
 use Rattle.counts.specs.Given.{Counts}
-use Rattle.engine.specs.Links.{first-word, last-word, followed, shortened, length-of, sent-word, Chain, Linked}
-use Rattle.engine.specs.State.{Fit, Now}
-use Rattle.engine.proofs.Few.{few, kept-few}
-use Rattle.engine.proofs.Links.{followed-beyond, last-before, first-before, chain-first, chain-length, joined, parted}
-use Rattle.engine.proofs.Sending.{sent-arrived, sent-finished, order-most, order-more, sent-word-most}
+use Rattle.queues.specs.Words.{followed, shortened, length-of, sent-word}
+use Rattle.events.specs.Links.{first-word, last-word, Chain, Linked}
+use Rattle.events.specs.State.{Fit, Now}
+use Rattle.events.proofs.Few.{few, kept-few}
+use Rattle.events.proofs.Links.{followed-beyond, last-before, first-before, chain-first, chain-length, joined, parted}
+use Rattle.events.proofs.Sending.{sent-arrived, sent-finished, order-most, order-more, sent-word-most}
 
 module _ (tree : Tree) (events : Events) (fit : Fit tree events) (i : ℕ) (inside : i < count events) where
   abbrev box : Box

@@ -18,8 +18,9 @@ use Rattle.laws.specs.Kept.{InLine, Kept}
 use Rattle.laws.proofs.OneEvent.{line-class, left}
 use Rattle.laws.proofs.Queues.{each-queue}
 use Rattle.hierarchy.specs.Next.{next-of}
-use Rattle.engine.specs.Links.{first-word, last-word, followed, shortened, length-of, Chain, Linked}
-use Rattle.engine.proofs.Words.{shortened-none, shortened-some}
+use Rattle.queues.specs.Words.{followed, shortened, length-of}
+use Rattle.events.specs.Links.{first-word, last-word, Chain, Linked}
+use Rattle.queues.proofs.Words.{shortened-none, shortened-some}
 
 -- ── one word written ──
 

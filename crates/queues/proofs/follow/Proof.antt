@@ -1,11 +1,11 @@
--- `engine::follow` meets its contract: a word that names no packet leaves the links as they are.
+-- `queues::follow` meets its contract: a word that names no packet leaves the links as they are.
 -- Assumes nothing.
 use borrow.Author.Needs.{needs}
 use mathlib.Core.Path.{sym}
-use Rattle.engine.specs.Links.{followed}
-use Rattle.engine.proofs.Words.{followed-some}
-use Rattle.engine.proofs.follow.Statement.{statement}
-use Rattle.engine.proofs.follow.Tie as tie
+use Rattle.queues.specs.Words.{followed}
+use Rattle.queues.proofs.Words.{followed-some}
+use Rattle.queues.proofs.follow.Statement.{statement}
+use Rattle.queues.proofs.follow.Tie as tie
 
 returns : tie.Need-returns
 unfolding followed

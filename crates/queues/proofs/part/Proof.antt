@@ -1,10 +1,10 @@
--- `engine::part` meets its contract: a queue whose first packet has no next is empty then.
+-- `queues::part` meets its contract: a queue whose first packet has no next is empty then.
 -- Assumes nothing.
 use borrow.Author.Needs.{needs}
 use mathlib.Core.Path.{sym, refl}
-use Rattle.engine.proofs.Words.{shortened-none, shortened-some}
-use Rattle.engine.proofs.part.Statement.{statement}
-use Rattle.engine.proofs.part.Tie as tie
+use Rattle.queues.proofs.Words.{shortened-none, shortened-some}
+use Rattle.queues.proofs.part.Statement.{statement}
+use Rattle.queues.proofs.part.Tie as tie
 
 wide-requires : tie.Need-wide-requires
 wide-requires c κs = search needs

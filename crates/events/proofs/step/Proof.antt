@@ -1,4 +1,4 @@
--- `engine::step` meets its contract, by the kind of event: the laws of one event give what each call asks, and the next box.
+-- `events::step` meets its contract, by the kind of event: the laws of one event give what each call asks, and the next box.
 -- Assumes nothing.
 use Prim.Native.Nat.{ℕ, suc, _+_, _≤_, _<_}
 use mathlib.Core.Path.{_≡_, refl, sym, _∙_}
@@ -13,12 +13,12 @@ use Rattle.rules.specs.Box.{Rows}
 use Rattle.rules.specs.Steps.{after}
 use Rattle.hierarchy.specs.Arrays.{rows-of}
 use Rattle.checks.specs.Lent.{events-of}
-use Rattle.engine.specs.State.{tree-at, Fit, Now}
-use Rattle.engine.proofs.Fits.{ready-now}
-use Rattle.engine.proofs.Stepping.{room, few-sent, fits, arrival-sender, last-known, arrived-now, arrived-beyond, arrived-order}
-use Rattle.engine.proofs.Stepping.{class-few, head-some, head-before, next-before, next-length, next-packet, finished-now, finished-order}
-use Rattle.engine.proofs.step.Statement.{statement}
-use Rattle.engine.proofs.step.Tie as tie
+use Rattle.events.specs.State.{tree-at, Fit, Now}
+use Rattle.events.proofs.Fits.{ready-now}
+use Rattle.events.proofs.Stepping.{room, few-sent, fits, arrival-sender, last-known, arrived-now, arrived-beyond, arrived-order}
+use Rattle.events.proofs.Stepping.{class-few, head-some, head-before, next-before, next-length, next-packet, finished-now, finished-order}
+use Rattle.events.proofs.step.Statement.{statement}
+use Rattle.events.proofs.step.Tie as tie
 
 -- ── what is lent ──
 

@@ -1,11 +1,11 @@
--- `engine::length_of` meets its contract: a word that names no packet has the length 0.
+-- `queues::length_of` meets its contract: a word that names no packet has the length 0.
 -- Assumes nothing.
 use borrow.Author.Needs.{needs}
 use mathlib.Core.Path.{sym}
-use Rattle.engine.specs.Links.{length-of}
-use Rattle.engine.proofs.Words.{length-some}
-use Rattle.engine.proofs.length_of.Statement.{statement}
-use Rattle.engine.proofs.length_of.Tie as tie
+use Rattle.queues.specs.Words.{length-of}
+use Rattle.queues.proofs.Words.{length-some}
+use Rattle.queues.proofs.length_of.Statement.{statement}
+use Rattle.queues.proofs.length_of.Tie as tie
 
 returns : tie.Need-returns
 unfolding length-of

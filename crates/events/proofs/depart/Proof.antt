@@ -1,4 +1,4 @@
--- `engine::depart` meets its contract: the rows' changes and the counts' change are those of the rules' departure.
+-- `events::depart` meets its contract: the rows' changes and the counts' change are those of the rules' departure.
 -- Assumes nothing.
 use mathlib.Core.Path.{sym, refl, _∙_, ap}
 use mathlib.Core.List.{[]}
@@ -6,9 +6,9 @@ use native.Mathlib.Omega.{arith}
 use borrow.Author.Needs.{needs}
 use Rattle.rules.specs.Box.{Rows, head-class, head-length}
 use Rattle.laws.proofs.OneEvent.{left}
-use Rattle.engine.proofs.Leaving.{left-small, departure-rows}
-use Rattle.engine.proofs.depart.Statement.{statement}
-use Rattle.engine.proofs.depart.Tie as tie
+use Rattle.events.proofs.Leaving.{left-small, departure-rows}
+use Rattle.events.proofs.depart.Statement.{statement}
+use Rattle.events.proofs.depart.Tie as tie
 
 element-copy-out-wide : tie.Need-element-copy-out-wide
 element-copy-out-wide c = search needs

@@ -16,7 +16,7 @@ use Rattle.rules.specs.Box.{Rows, Box, fresh, head, has-head}
 use Rattle.rules.specs.Steps.{sent, arrival, departure, step, after}
 use Rattle.rules.specs.Outcome.{over}
 use Rattle.counts.proofs.Written.{over-more}
-use Rattle.engine.specs.Links.{sent-word}
+use Rattle.queues.specs.Words.{sent-word}
 
 -- ── words ──
 

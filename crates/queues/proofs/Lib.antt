@@ -1,0 +1,2 @@
+-- The theorems that the proofs of queues rest on.
+pub mod Words

@@ -1,0 +1,2 @@
+-- What the contracts of queues speak of.
+pub mod Words
