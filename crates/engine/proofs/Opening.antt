@@ -15,7 +15,7 @@ use Rattle.rules.specs.Outcome.{over}
 use Rattle.laws.specs.Sound.{Sender}
 use Rattle.laws.proofs.Outset.{zeros-at, empty-queue}
 use Rattle.laws.proofs.Trees.{zeros-full}
-use Rattle.hierarchy.specs.Arrays.{rows-of}
+use Rattle.choosing.specs.Arrays.{rows-of}
 use Rattle.counts.specs.Given.{Shown}
 use Rattle.events.specs.Links.{last-word, Chain, Linked}
 use Rattle.events.specs.State.{Now}

@@ -9,7 +9,7 @@ use Rattle.rules.specs.Events.{Events, count}
 use Rattle.rules.specs.Box.{Rows}
 use Rattle.rules.specs.Steps.{after}
 use Rattle.laws.specs.History.{Accepted}
-use Rattle.hierarchy.specs.Arrays.{Inside}
+use Rattle.choosing.specs.Arrays.{Inside}
 use Rattle.hierarchy.specs.Sizes.{Small}
 use Rattle.counts.specs.Given.{At-most, Counts}
 use Rattle.events.specs.Links.{Linked}

@@ -8,7 +8,7 @@ ghost use Rattle.rules.specs.Limits.{most-rows, most-bytes, most-events};
 ghost use Rattle.rules.specs.Box.{Box};
 ghost use Rattle.rules.specs.Steps.{after, arrival, departure};
 ghost use Rattle.rules.specs.Outcome.{over};
-ghost use Rattle.hierarchy.specs.Arrays.{tree, rows-of};
+ghost use Rattle.choosing.specs.Arrays.{tree, rows-of};
 ghost use Rattle.hierarchy.specs.Next.{next-of};
 ghost use Rattle.counts.specs.Given.{Counts};
 ghost use Rattle.checks.specs.Lent.{events-of};

@@ -11,8 +11,8 @@ use Rattle.rules.specs.declared.Why.{Why}
 use Rattle.rules.specs.Classes.{Tree, parent}
 use Rattle.rules.specs.Box.{Rows, has-head}
 use Rattle.rules.specs.Steps.{chooses, up, on-path, along}
-use Rattle.hierarchy.specs.Arrays.{tree, headed}
-use Rattle.hierarchy.proofs.Parts.{head-part}
+use Rattle.choosing.specs.Arrays.{tree, headed}
+use Rattle.choosing.proofs.Parts.{head-part}
 
 -- ── choosing ──
 

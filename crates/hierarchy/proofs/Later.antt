@@ -10,9 +10,10 @@ use Rattle.rules.specs.Limits.{most-bytes}
 use Rattle.rules.specs.Classes.{Tree}
 use Rattle.rules.specs.Box.{Packet, Rows}
 use Rattle.rules.specs.Steps.{new-head, renews}
+use Rattle.choosing.specs.Sizes.{Room, most-charge}
+use Rattle.choosing.proofs.Ticks.{less-room}
 use Rattle.hierarchy.specs.Next.{next-of}
-use Rattle.hierarchy.specs.Sizes.{Room, most-charge}
-use Rattle.hierarchy.proofs.Ticks.{less-room, new-head-room}
+use Rattle.hierarchy.proofs.Enough.{new-head-room}
 
 module _ (tree : Tree) (k : ℕ) (rows : Rows) where
   pub renews-first : (later : List Packet) → renews tree k later rows ≡ renews tree k (take 1 later) rows

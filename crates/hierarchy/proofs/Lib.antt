@@ -1,6 +1,4 @@
 -- What the functions' proofs share.
-pub mod Parts
-pub mod Scan
-pub mod Ticks
+pub mod Enough
 pub mod Climb
 pub mod Later

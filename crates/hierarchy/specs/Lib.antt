@@ -1,4 +1,3 @@
--- What the contracts of the steps speak of beside the rules.
-pub mod Arrays
+-- What the contracts of the steps speak of beside the rules and what one row does.
 pub mod Sizes
 pub mod Next

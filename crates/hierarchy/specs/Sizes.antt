@@ -1,7 +1,8 @@
 -- Sizes: what the steps ask of the numbers in the rows so that no sum wraps.
-use Prim.Native.Nat.{ℕ, _+_, _*_, _≤_, _<_, _^_}
-use Rattle.rules.specs.Limits.{most-rows, most-bytes, ticks, scale}
+use Prim.Native.Nat.{ℕ, _*_, _≤_, _^_}
+use Rattle.rules.specs.Limits.{most-rows, most-bytes}
 use Rattle.rules.specs.Box.{Rows, start, finish, virtual, head-length}
+use Rattle.choosing.specs.Sizes.{most-choice}
 
 -- every tag is at most 2 ^ 62, and every length is a packet's
 pub record Small (rows : Rows) : Type 0 where
@@ -10,24 +11,6 @@ pub record Small (rows : Rows) : Type 0 where
   pub virtuals : (i : ℕ) → virtual rows i ≤ 2 ^ 62
   pub lengths : (i : ℕ) → head-length rows i ≤ most-bytes
 
--- so many more ticks fit every tag, and every length is a packet's
-pub record Room (more : ℕ) (rows : Rows) : Type 0 where
-  pub starts : (i : ℕ) → start rows i + more < 2 ^ 64
-  pub finishes : (i : ℕ) → finish rows i + more < 2 ^ 64
-  pub virtuals : (i : ℕ) → virtual rows i + more < 2 ^ 64
-  pub lengths : (i : ℕ) → head-length rows i ≤ most-bytes
-
--- ticks by which a packet raises a tag, at most: a row's finish when it is charged, its virtual time when that passes over it
-abbrev pub most-charge : ℕ
-most-charge = scale * most-bytes
-
-abbrev pub most-passed : ℕ
-most-passed = ticks * most-bytes
-
--- the same of a choice, which does both
-abbrev pub most-choice : ℕ
-most-choice = most-charge + most-passed
-
--- the same of the choices from a row up to the root, at most one for each row that there can be
+-- ticks by which the choices from a row up to the root raise a tag, at most one choice for each row that there can be
 abbrev pub most-climb : ℕ
 most-climb = most-rows * most-choice

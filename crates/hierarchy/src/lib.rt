@@ -5,317 +5,16 @@
 // Lengths are packets', and tags so small that no step's sum wraps: a step charges one packet and chooses once a level at most.
 ghost use mathlib.Core.Path.{_≡_};
 ghost use mathlib.Core.List.{List};
-ghost use Prim.Native.Nat.{ℕ, _+_, _<_, _≤_, _^_, max};
-ghost use lib.ListN.{getD, set, take};
+ghost use Prim.Native.Nat.{ℕ, _+_, _<_, _≤_, _^_};
+ghost use lib.ListN.{getD, take};
 ghost use Rattle.rules.specs.Limits.{most-rows, most-bytes};
 ghost use Rattle.rules.specs.Box.{Packet};
 ghost use Rattle.rules.specs.Steps as steps;
-ghost use Rattle.hierarchy.specs.Arrays.{tree, rows-of, Inside, headed, waiting, ready, raised-of, next-start-of};
-ghost use Rattle.hierarchy.specs.Sizes.{Small, Room, most-charge, most-choice, most-climb};
+ghost use Rattle.choosing.specs.Arrays.{tree, rows-of, Inside};
+ghost use Rattle.choosing.specs.Sizes.{Room, most-charge};
+ghost use Rattle.hierarchy.specs.Sizes.{Small, most-climb};
 ghost use Rattle.hierarchy.specs.Next.{next-of};
 use rules::Why;
-
-// Ticks of virtual time to a byte.
-const TICKS: u64 = 840;
-
-fn larger(a: u64, b: u64) -> u64
-    ensures { λ r. ⌜ r ≡ max a b ⌝ }
-{
-    if a < b { b } else { a }
-}
-
-fn has_head(heads: &[u32; 256], r: usize) -> bool
-    requires { ⌜ r < most-rows ⌝ }
-    ensures { λ b. ⌜ b ≡ headed (now (heads .entry)) r ⌝ }
-{
-    heads[r] != 0
-}
-
-// Whether row r is a child of p with a head.
-fn waits(parents: &[u32; 256], heads: &[u32; 256], p: u32, r: usize) -> bool
-    requires { ⌜ r < most-rows ⌝ }
-    ensures { λ b. ⌜ b ≡ waiting (now (parents .entry)) (now (heads .entry)) p r ⌝ }
-{
-    if parents[r] != p {
-        return false;
-    }
-    if heads[r] == 0 {
-        return false;
-    }
-    0 < r
-}
-
-// Whether it waits and its start is at most v.
-fn eligible(
-    parents: &[u32; 256],
-    starts: &[u64; 256],
-    heads: &[u32; 256],
-    p: u32,
-    v: u64,
-    r: usize,
-) -> bool
-    requires { ⌜ r < most-rows ⌝ }
-    ensures { λ b. ⌜ b ≡ ready (now (parents .entry)) (now (starts .entry)) (now (heads .entry)) p v r ⌝ }
-{
-    if waits(parents, heads, p, r) {
-        starts[r] <= v
-    } else {
-        false
-    }
-}
-
-// Of two rows, the second if it passes and its key is less; the first may be 0, which is no row.
-fn lesser(passes: bool, keys: &[u64; 256], best: usize, r: usize) -> usize
-    requires { ⌜ best < most-rows ⌝ }
-    requires { ⌜ r < most-rows ⌝ }
-    ensures { λ k. ⌜ k ≡ steps.lesser (λ (i : ℕ). passes) (λ (i : ℕ). getD (now (keys .entry)) i 0) best r ⌝ }
-{
-    if passes {
-        if best == 0 {
-            return r;
-        }
-        if keys[r] < keys[best] { r } else { best }
-    } else {
-        best
-    }
-}
-
-// The child of p that waits with the least start, 0 where none waits.
-fn least_start(
-    rows: usize,
-    parents: &[u32; 256],
-    starts: &[u64; 256],
-    heads: &[u32; 256],
-    p: u32,
-) -> usize
-    requires { ⌜ rows ≤ most-rows ⌝ }
-    ensures { λ k. ⌜ k ≡ steps.least (waiting (now (parents .entry)) (now (heads .entry)) p)
-        (λ (i : ℕ). getD (now (starts .entry)) i 0) rows ⌝ }
-{
-    let mut best = 0;
-    let mut i = 0;
-    while i < rows {
-        best = lesser(waits(parents, heads, p, i), starts, best, i);
-        i += 1;
-    }
-    best
-}
-
-// The child of p that is eligible at v with the least finish, 0 where none is.
-fn least_finish(
-    rows: usize,
-    parents: &[u32; 256],
-    starts: &[u64; 256],
-    finishes: &[u64; 256],
-    heads: &[u32; 256],
-    p: u32,
-    v: u64,
-) -> usize
-    requires { ⌜ rows ≤ most-rows ⌝ }
-    ensures { λ k. ⌜ k ≡ steps.least (ready (now (parents .entry)) (now (starts .entry)) (now (heads .entry)) p v)
-        (λ (i : ℕ). getD (now (finishes .entry)) i 0) rows ⌝ }
-{
-    let mut best = 0;
-    let mut i = 0;
-    while i < rows {
-        best = lesser(eligible(parents, starts, heads, p, v, i), finishes, best, i);
-        i += 1;
-    }
-    best
-}
-
-// The virtual time of p, raised to the least start among its waiting children if it is lower.
-fn raised(
-    rows: usize,
-    parents: &[u32; 256],
-    starts: &[u64; 256],
-    virtuals: &[u64; 256],
-    heads: &[u32; 256],
-    p: u32,
-) -> u64
-    requires { ⌜ rows ≤ most-rows ⌝ }
-    requires { ⌜ p < most-rows ⌝ }
-    ensures { λ v. ⌜ v ≡ raised-of rows (now (parents .entry)) (now (starts .entry)) (now (virtuals .entry)) (now (heads .entry)) p ⌝ }
-{
-    let first = least_start(rows, parents, starts, heads, p);
-    let v = virtuals[p as usize];
-    if first == 0 {
-        return v;
-    }
-    larger(v, starts[first])
-}
-
-// Where the next packet of row r starts: at its finish if its last packet has just finished, else not before its parent's
-// virtual time.
-fn next_start(
-    parents: &[u32; 256],
-    finishes: &[u64; 256],
-    virtuals: &[u64; 256],
-    why: Why,
-    r: usize,
-) -> u64
-    requires { ⌜ r < most-rows ⌝ }
-    requires { ⌜ Inside (now parents) ⌝ }
-    ensures { λ s. ⌜ s ≡ next-start-of (now (parents .entry)) (now (finishes .entry)) (now (virtuals .entry)) why r ⌝ }
-{
-    match why {
-        Why::Finished => finishes[r],
-        Why::Arrived => larger(finishes[r], virtuals[parents[r] as usize]),
-    }
-}
-
-// Row r has this head, of this length and class.
-fn set_head(
-    heads: &mut [u32; 256],
-    lengths: &mut [u32; 256],
-    classes: &mut [u32; 256],
-    r: usize,
-    packet: u32,
-    length: u32,
-    class: u32,
-)
-    requires { ⌜ r < most-rows ⌝ }
-    ensures { λ _. ⌜ now (heads .exit) ≡ set (now (heads .entry)) r packet ⌝ }
-    ensures { λ _. ⌜ now (lengths .exit) ≡ set (now (lengths .entry)) r length ⌝ }
-    ensures { λ _. ⌜ now (classes .exit) ≡ set (now (classes .entry)) r class ⌝ }
-{
-    heads[r] = packet;
-    lengths[r] = length;
-    classes[r] = class;
-}
-
-// Row r, which is not the root, gets a head and is charged for it.
-fn new_head(
-    parents: &[u32; 256],
-    shares: &[u32; 256],
-    starts: &mut [u64; 256],
-    finishes: &mut [u64; 256],
-    virtuals: &[u64; 256],
-    heads: &mut [u32; 256],
-    lengths: &mut [u32; 256],
-    classes: &mut [u32; 256],
-    why: Why,
-    r: usize,
-    packet: u32,
-    length: u32,
-    class: u32,
-)
-    requires { ⌜ r < most-rows ⌝ }
-    requires { ⌜ Inside (now parents) ⌝ }
-    requires { ⌜ length ≤ most-bytes ⌝ }
-    requires { ⌜ Room most-charge (rows-of (now starts) (now finishes) (now virtuals) (now heads) (now lengths) (now classes)) ⌝ }
-    ensures { λ _. ⌜ ((rows : ℕ) (ids depths : List ℕ)
-        → rows-of (now (starts .exit)) (now (finishes .exit)) (now (virtuals .exit))
-        (now (heads .exit)) (now (lengths .exit)) (now (classes .exit))
-        ≡ steps.new-head (tree rows ids (now (parents .entry)) depths (now (shares .entry))) why r packet length class
-        (rows-of (now (starts .entry)) (now (finishes .entry)) (now (virtuals .entry))
-        (now (heads .entry)) (now (lengths .entry)) (now (classes .entry)))) ⌝ }
-{
-    let s = next_start(parents, finishes, virtuals, why, r);
-    starts[r] = s;
-    finishes[r] = s + shares::charge(length, shares[r]);
-    set_head(heads, lengths, classes, r, packet, length, class);
-}
-
-// Row p, whose virtual time is raised to v, takes its child k: k's head is p's too, and p's virtual time passes over it.
-fn takes(
-    parents: &[u32; 256],
-    shares: &[u32; 256],
-    starts: &mut [u64; 256],
-    finishes: &mut [u64; 256],
-    virtuals: &mut [u64; 256],
-    heads: &mut [u32; 256],
-    lengths: &mut [u32; 256],
-    classes: &mut [u32; 256],
-    why: Why,
-    p: usize,
-    k: usize,
-    v: u64,
-)
-    requires { ⌜ p < most-rows ⌝ }
-    requires { ⌜ k < most-rows ⌝ }
-    requires { ⌜ v + most-choice < 2 ^ 64 ⌝ }
-    requires { ⌜ Inside (now parents) ⌝ }
-    requires { ⌜ Room most-choice (rows-of (now starts) (now finishes) (now virtuals) (now heads) (now lengths) (now classes)) ⌝ }
-    ensures { λ _. ⌜ ((rows : ℕ) (ids depths : List ℕ)
-        → v ≡ raised-of rows (now (parents .entry)) (now (starts .entry)) (now (virtuals .entry)) (now (heads .entry)) p
-        → rows-of (now (starts .exit)) (now (finishes .exit)) (now (virtuals .exit))
-        (now (heads .exit)) (now (lengths .exit)) (now (classes .exit))
-        ≡ steps.takes (tree rows ids (now (parents .entry)) depths (now (shares .entry))) why p k
-        (rows-of (now (starts .entry)) (now (finishes .entry)) (now (virtuals .entry))
-        (now (heads .entry)) (now (lengths .entry)) (now (classes .entry)))) ⌝ }
-{
-    let packet = heads[k];
-    let length = lengths[k];
-    let class = classes[k];
-    virtuals[p] = v + TICKS * (length as u64);
-    if p == 0 {
-        set_head(heads, lengths, classes, p, packet, length, class);
-    } else {
-        new_head(
-            parents,
-            shares,
-            starts,
-            finishes,
-            virtuals,
-            heads,
-            lengths,
-            classes,
-            why,
-            p,
-            packet,
-            length,
-            class,
-        );
-    }
-}
-
-// Row p chooses; where no child has a head it has none, and its tags stay.
-fn chooses(
-    rows: usize,
-    parents: &[u32; 256],
-    shares: &[u32; 256],
-    starts: &mut [u64; 256],
-    finishes: &mut [u64; 256],
-    virtuals: &mut [u64; 256],
-    heads: &mut [u32; 256],
-    lengths: &mut [u32; 256],
-    classes: &mut [u32; 256],
-    why: Why,
-    p: u32,
-)
-    requires { ⌜ rows ≤ most-rows ⌝ }
-    requires { ⌜ p < most-rows ⌝ }
-    requires { ⌜ Inside (now parents) ⌝ }
-    requires { ⌜ Room most-choice (rows-of (now starts) (now finishes) (now virtuals) (now heads) (now lengths) (now classes)) ⌝ }
-    ensures { λ _. ⌜ ((ids depths : List ℕ)
-        → rows-of (now (starts .exit)) (now (finishes .exit)) (now (virtuals .exit))
-        (now (heads .exit)) (now (lengths .exit)) (now (classes .exit))
-        ≡ steps.chooses (tree rows ids (now (parents .entry)) depths (now (shares .entry))) why p
-        (rows-of (now (starts .entry)) (now (finishes .entry)) (now (virtuals .entry))
-        (now (heads .entry)) (now (lengths .entry)) (now (classes .entry)))) ⌝ }
-{
-    let v = raised(rows, parents, starts, virtuals, heads, p);
-    let k = least_finish(rows, parents, starts, finishes, heads, p, v);
-    if k == 0 {
-        set_head(heads, lengths, classes, p as usize, 0, 0, 0);
-    } else {
-        takes(
-            parents,
-            shares,
-            starts,
-            finishes,
-            virtuals,
-            heads,
-            lengths,
-            classes,
-            why,
-            p as usize,
-            k,
-            v,
-        );
-    }
-}
 
 // From a row at this depth upwards: the parent chooses if it has no head, then the parent's parent likewise, up to the root.
 fn up(
@@ -349,10 +48,10 @@ fn up(
     while 0 < d {
         let p = parents[r];
         r = p as usize;
-        if has_head(heads, r) {
+        if choosing::has_head(heads, r) {
             return;
         }
-        chooses(
+        choosing::chooses(
             rows,
             parents,
             shares,
@@ -388,11 +87,11 @@ pub fn finish_first(
     let mut left = depths[k];
     let mut r = k;
     while 0 < left {
-        set_head(heads, lengths, classes, r, 0, 0, 0);
+        choosing::set_head(heads, lengths, classes, r, 0, 0, 0);
         r = parents[r] as usize;
         left -= 1;
     }
-    set_head(heads, lengths, classes, r, 0, 0, 0);
+    choosing::set_head(heads, lengths, classes, r, 0, 0, 0);
 }
 
 // The next packet of class k, if it has one, is its head.
@@ -425,7 +124,7 @@ fn renew(
     }
     let why = Why::Finished;
     let class = k as u32;
-    new_head(
+    choosing::new_head(
         parents,
         shares,
         starts,
@@ -531,13 +230,13 @@ pub fn arrive(
         (rows-of (now (starts .entry)) (now (finishes .entry)) (now (virtuals .entry))
         (now (heads .entry)) (now (lengths .entry)) (now (classes .entry)))) ⌝ }
 {
-    if has_head(heads, k) {
+    if choosing::has_head(heads, k) {
         return;
     }
     let why = Why::Arrived;
     let packet = place + 1;
     let class = k as u32;
-    new_head(
+    choosing::new_head(
         parents,
         shares,
         starts,

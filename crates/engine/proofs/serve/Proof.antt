@@ -11,7 +11,7 @@ use Rattle.rules.specs.Events.{Events, count}
 use Rattle.rules.specs.Box.{Rows, Box}
 use Rattle.rules.specs.Steps.{after}
 use Rattle.rules.specs.Outcome.{over}
-use Rattle.hierarchy.specs.Arrays.{rows-of}
+use Rattle.choosing.specs.Arrays.{rows-of}
 use Rattle.checks.specs.Lent.{events-of}
 use Rattle.events.specs.State.{tree-at, Fit, Now}
 use Rattle.events.proofs.Fits.{past-now, bytes-now}

@@ -11,7 +11,7 @@ use Rattle.rules.specs.Classes.{Tree, row-of}
 use Rattle.rules.specs.Events.{Events, event}
 use Rattle.rules.specs.Box.{Rows}
 use Rattle.rules.specs.Steps.{after}
-use Rattle.hierarchy.specs.Arrays.{rows-of}
+use Rattle.choosing.specs.Arrays.{rows-of}
 use Rattle.checks.specs.Lent.{events-of}
 use Rattle.events.specs.State.{tree-at, Fit, Now}
 use Rattle.events.proofs.Fits.{ready-now}

@@ -6,9 +6,10 @@ use native.Mathlib.Numerals.{add-one}
 use lib.Dec.{lit<}
 use borrow.Author.Needs.{needs}
 use Rattle.rules.specs.Steps.{arrives}
-use Rattle.hierarchy.specs.Sizes.{most-charge, most-climb}
-use Rattle.hierarchy.proofs.Ticks.{same-room, small-room, new-head-room}
-use Rattle.hierarchy.proofs.Parts.{head-part}
+use Rattle.choosing.specs.Sizes.{most-charge}
+use Rattle.choosing.proofs.Parts.{head-part}
+use Rattle.hierarchy.specs.Sizes.{most-climb}
+use Rattle.hierarchy.proofs.Enough.{same-room, small-room, new-head-room}
 use Rattle.hierarchy.proofs.arrive.Statement.{statement}
 use Rattle.hierarchy.proofs.arrive.Tie as tie
 

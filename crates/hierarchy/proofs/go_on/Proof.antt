@@ -6,9 +6,10 @@ use mathlib.Core.List.{[]}
 use lib.Dec.{lit<}
 use borrow.Author.Needs.{needs}
 use Rattle.rules.specs.Steps.{goes-on}
-use Rattle.hierarchy.specs.Sizes.{most-charge, most-climb}
+use Rattle.choosing.specs.Sizes.{most-charge}
+use Rattle.hierarchy.specs.Sizes.{most-climb}
 use Rattle.hierarchy.proofs.Later.{renews-first, renews-room}
-use Rattle.hierarchy.proofs.Ticks.{same-room, small-room}
+use Rattle.hierarchy.proofs.Enough.{same-room, small-room}
 use Rattle.hierarchy.proofs.go_on.Statement.{statement}
 use Rattle.hierarchy.proofs.go_on.Tie as tie
 

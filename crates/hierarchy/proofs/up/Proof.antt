@@ -6,10 +6,12 @@ use mathlib.Core.List.{[]}
 use mathlib.Core.Path.{sym, _∙_}
 use native.Mathlib.Omega.{arith}
 use Rattle.rules.specs.Limits.{most-rows}
-use Rattle.hierarchy.specs.Sizes.{Room, most-choice, most-climb}
-use Rattle.hierarchy.specs.Arrays.{rows-of}
+use Rattle.choosing.specs.Sizes.{Room, most-choice}
+use Rattle.choosing.specs.Arrays.{rows-of}
+use Rattle.choosing.proofs.Ticks.{less-room}
+use Rattle.hierarchy.specs.Sizes.{most-climb}
 use Rattle.hierarchy.proofs.Climb.{Rising, rising-all, rising-done, rising-stops, rising-goes}
-use Rattle.hierarchy.proofs.Ticks.{less-room, chosen-room}
+use Rattle.hierarchy.proofs.Enough.{chosen-room}
 use Rattle.hierarchy.proofs.up.Statement.{statement}
 use Rattle.hierarchy.proofs.up.Tie as tie
 

@@ -11,7 +11,7 @@ use Rattle.rules.specs.declared.Why.the-variants.{Finished, Arrived}
 use Rattle.rules.specs.Classes.{Tree, child}
 use Rattle.rules.specs.Box.{Rows, has-head}
 use Rattle.rules.specs.Steps.{waits, eligible, least, raised, pick, next-start}
-use Rattle.hierarchy.specs.Arrays.{headed, waiting, ready, raised-of, next-start-of}
+use Rattle.choosing.specs.Arrays.{headed, waiting, ready, raised-of, next-start-of}
 
 pub ready-waiting : (parents starts heads : List ℕ) (p v r : ℕ)
     → ready parents starts heads p v r ≡ waiting parents heads p r && leb (getD starts r 0) v

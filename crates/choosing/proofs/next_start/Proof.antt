@@ -1,10 +1,10 @@
--- `hierarchy::next_start` meets its contract: the two reasons for choosing are the two clauses of the definition.
+-- `choosing::next_start` meets its contract: the two reasons for choosing are the two clauses of the definition.
 -- Assumes nothing.
 use native.Mathlib.Omega.{arith}
 use borrow.Author.Needs.{needs}
 use Rattle.rules.specs.Steps.{next-start}
-use Rattle.hierarchy.proofs.next_start.Statement.{statement}
-use Rattle.hierarchy.proofs.next_start.Tie as tie
+use Rattle.choosing.proofs.next_start.Statement.{statement}
+use Rattle.choosing.proofs.next_start.Tie as tie
 
 enum-told : tie.Need-enum-told
 enum-told c = search needs

@@ -1,11 +1,11 @@
--- `hierarchy::new_head` meets its contract: the row has room for one more charge, and the stores are those of the definition.
+-- `choosing::new_head` meets its contract: the row has room for one more charge, and the stores are those of the definition.
 -- Assumes nothing.
 use borrow.Author.Needs.{needs}
 use Rattle.rules.specs.Steps.{new-head, charged, with-head}
-use Rattle.hierarchy.proofs.Ticks.{charged-fits}
-use Rattle.hierarchy.proofs.Parts.{next-start-part}
-use Rattle.hierarchy.proofs.new_head.Statement.{statement}
-use Rattle.hierarchy.proofs.new_head.Tie as tie
+use Rattle.choosing.proofs.Ticks.{charged-fits}
+use Rattle.choosing.proofs.Parts.{next-start-part}
+use Rattle.choosing.proofs.new_head.Statement.{statement}
+use Rattle.choosing.proofs.new_head.Tie as tie
 
 next-start-requires : tie.Need-next-start-requires
 next-start-requires c κs = search needs

@@ -1,4 +1,4 @@
--- `hierarchy::chooses` meets its contract: the two scans find the child that the definition picks.
+-- `choosing::chooses` meets its contract: the two scans find the child that the definition picks.
 -- Assumes nothing.
 use Prim.Native.Nat.{_+_, _<_, _^_}
 use native.Mathlib.Omega.{arith}
@@ -6,12 +6,12 @@ use borrow.Author.Tests.{eq-eqb, ne-eqb}
 use borrow.Author.Needs.{needs}
 use Rattle.rules.specs.Limits.{most-rows}
 use Rattle.rules.specs.Steps.{chooses, with-head}
-use Rattle.hierarchy.specs.Sizes.{most-choice}
-use Rattle.hierarchy.proofs.Ticks.{raised-fits}
-use Rattle.hierarchy.proofs.Scan.{least-below}
-use Rattle.hierarchy.proofs.Parts.{raised-part, pick-part}
-use Rattle.hierarchy.proofs.chooses.Statement.{statement}
-use Rattle.hierarchy.proofs.chooses.Tie as tie
+use Rattle.choosing.specs.Sizes.{most-choice}
+use Rattle.choosing.proofs.Ticks.{raised-fits}
+use Rattle.choosing.proofs.Scan.{least-below}
+use Rattle.choosing.proofs.Parts.{raised-part, pick-part}
+use Rattle.choosing.proofs.chooses.Statement.{statement}
+use Rattle.choosing.proofs.chooses.Tie as tie
 
 raised-requires : tie.Need-raised-requires
 raised-requires c κs = search needs

@@ -1,4 +1,4 @@
--- `hierarchy::waits` meets its contract: each test that fails is one part of what waiting asks, and the last test is the part
+-- `choosing::waits` meets its contract: each test that fails is one part of what waiting asks, and the last test is the part
 -- that is left.
 -- Assumes nothing.
 use mathlib.Core.Bool.{and-false, and-true}
@@ -7,8 +7,8 @@ use borrow.Author.Needs.{needs}
 use Rattle.rules.specs.Classes.{child}
 use Rattle.rules.specs.Box.{has-head}
 use Rattle.rules.specs.Steps.{waits}
-use Rattle.hierarchy.proofs.waits.Statement.{statement}
-use Rattle.hierarchy.proofs.waits.Tie as tie
+use Rattle.choosing.proofs.waits.Statement.{statement}
+use Rattle.choosing.proofs.waits.Tie as tie
 
 mul-if1 : tie.Need-mul-if1
 mul-if1 c = search needs

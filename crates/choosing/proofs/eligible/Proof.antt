@@ -1,9 +1,9 @@
--- `hierarchy::eligible` meets its contract: a row that waits is eligible by its start alone, any other is not.
+-- `choosing::eligible` meets its contract: a row that waits is eligible by its start alone, any other is not.
 -- Assumes nothing.
 use borrow.Author.Needs.{needs}
-use Rattle.hierarchy.proofs.Parts.{ready-waiting}
-use Rattle.hierarchy.proofs.eligible.Statement.{statement}
-use Rattle.hierarchy.proofs.eligible.Tie as tie
+use Rattle.choosing.proofs.Parts.{ready-waiting}
+use Rattle.choosing.proofs.eligible.Statement.{statement}
+use Rattle.choosing.proofs.eligible.Tie as tie
 
 waits-requires : tie.Need-waits-requires
 waits-requires c κs = search needs

@@ -1,15 +1,15 @@
--- `hierarchy::takes` meets its contract: the row has room for one more choice; the root is charged nothing, any other row gets
+-- `choosing::takes` meets its contract: the row has room for one more choice; the root is charged nothing, any other row gets
 -- its head by `new_head`.
 -- Assumes nothing.
 use native.Mathlib.Omega.{arith}
 use borrow.Author.Tests.{eq-eqb, ne-eqb}
 use borrow.Author.Needs.{needs}
 use Rattle.rules.specs.Steps.{takes, with-virtual, with-head}
-use Rattle.hierarchy.specs.Sizes.{most-charge}
-use Rattle.hierarchy.proofs.Ticks.{passed-room}
-use Rattle.hierarchy.proofs.Parts.{raised-part}
-use Rattle.hierarchy.proofs.takes.Statement.{statement}
-use Rattle.hierarchy.proofs.takes.Tie as tie
+use Rattle.choosing.specs.Sizes.{most-charge}
+use Rattle.choosing.proofs.Ticks.{passed-room}
+use Rattle.choosing.proofs.Parts.{raised-part}
+use Rattle.choosing.proofs.takes.Statement.{statement}
+use Rattle.choosing.proofs.takes.Tie as tie
 
 mul-packet : tie.Need-mul-packet
 mul-packet c = search needs

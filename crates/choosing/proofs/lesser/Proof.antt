@@ -1,10 +1,10 @@
--- `hierarchy::lesser` meets its contract: its three tests are those of the definition, in order.
+-- `choosing::lesser` meets its contract: its three tests are those of the definition, in order.
 -- Assumes nothing.
 use borrow.Author.Tests.{lt-ltb, le-ltb, eq-eqb, ne-eqb}
 use borrow.Author.Needs.{needs}
 use Rattle.rules.specs.Steps.{lesser}
-use Rattle.hierarchy.proofs.lesser.Statement.{statement}
-use Rattle.hierarchy.proofs.lesser.Tie as tie
+use Rattle.choosing.proofs.lesser.Statement.{statement}
+use Rattle.choosing.proofs.lesser.Tie as tie
 
 returns : tie.Need-returns
 unfolding lesser

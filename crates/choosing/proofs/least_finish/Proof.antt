@@ -1,4 +1,4 @@
--- `hierarchy::least_finish` meets its contract: the loop has found the least of the rows that it passed.
+-- `choosing::least_finish` meets its contract: the loop has found the least of the rows that it passed.
 -- Assumes nothing.
 use Prim.Native.Nat.{ℕ, _≤_, _-_}
 use mathlib.Core.Path.{_≡_, refl, _∙_}
@@ -6,10 +6,10 @@ use native.Mathlib.Omega.{arith}
 use lib.ListN.{getD}
 use Rattle.rules.specs.Limits.{most-rows}
 use Rattle.rules.specs.Steps.{least}
-use Rattle.hierarchy.specs.Arrays.{ready}
-use Rattle.hierarchy.proofs.Scan.{least-more, least-below}
-use Rattle.hierarchy.proofs.least_finish.Statement.{statement}
-use Rattle.hierarchy.proofs.least_finish.Tie as tie
+use Rattle.choosing.specs.Arrays.{ready}
+use Rattle.choosing.proofs.Scan.{least-more, least-below}
+use Rattle.choosing.proofs.least_finish.Statement.{statement}
+use Rattle.choosing.proofs.least_finish.Tie as tie
 
 abbrev Inv-loop : tie.InvT-loop
 Inv-loop rows parents starts finishes heads p v best₀ i₀ best i =

@@ -1,10 +1,10 @@
--- `hierarchy::has_head` meets its contract: a head is there where its number is not 0.
+-- `choosing::has_head` meets its contract: a head is there where its number is not 0.
 -- Assumes nothing.
 use mathlib.Core.Path.{refl}
 use borrow.Author.Needs.{needs}
 use Rattle.rules.specs.Box.{has-head}
-use Rattle.hierarchy.proofs.has_head.Statement.{statement}
-use Rattle.hierarchy.proofs.has_head.Tie as tie
+use Rattle.choosing.proofs.has_head.Statement.{statement}
+use Rattle.choosing.proofs.has_head.Tie as tie
 
 mul-result : tie.Need-mul-result
 mul-result c = search needs

@@ -1,4 +1,4 @@
--- `hierarchy::raised` meets its contract: what the scan finds is a row that there can be, so its start can be read.
+-- `choosing::raised` meets its contract: what the scan finds is a row that there can be, so its start can be read.
 -- Assumes nothing.
 use Prim.Native.Nat.{_<_}
 use native.Mathlib.Omega.{arith}
@@ -8,9 +8,9 @@ use Rattle.rules.specs.Limits.{most-rows}
 use Rattle.rules.specs.Steps.{waits, raised}
 use Rattle.rules.specs.Box.{has-head}
 use Rattle.rules.specs.Classes.{child}
-use Rattle.hierarchy.proofs.Scan.{least-below}
-use Rattle.hierarchy.proofs.raised.Statement.{statement}
-use Rattle.hierarchy.proofs.raised.Tie as tie
+use Rattle.choosing.proofs.Scan.{least-below}
+use Rattle.choosing.proofs.raised.Statement.{statement}
+use Rattle.choosing.proofs.raised.Tie as tie
 
 least-start-requires : tie.Need-least-start-requires
 least-start-requires c κs = search needs
