@@ -21,7 +21,7 @@ use Rattle.laws.specs.Sound.{Sound}
 use Rattle.laws.proofs.Trees.{sound}
 use Rattle.laws.proofs.Idle.{idle-is-counted}
 use Rattle.checks.specs.Counted.{counted-refused, lengths-refused}
-use Rattle.checks.proofs.Firsts.{or-else-first, none-first, first-append, each-none}
+use Rattle.tables.proofs.Firsts.{or-else-first, none-first, first-append, each-none}
 
 module _ (tree : Tree) (sound : Sound tree) (events : Events) where
   event-counted : (n : ℕ) → ((i : ℕ) → i < n → event-refused tree events i .number ≡ 0)

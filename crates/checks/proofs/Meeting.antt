@@ -16,10 +16,10 @@ use Rattle.rules.specs.Classes.{Tree, place-of, row-of}
 use Rattle.rules.specs.Events.{Events, class-word, length-word, decode, event}
 use Rattle.rules.specs.Promise.{within, for-part, one-arrival, one-finish, arrived, finish-count}
 use Rattle.rules.specs.Refusals.{nothing, given, or-else, first, first-below, meeting-refused}
-use Rattle.checks.specs.Answers.{refusal-of}
+use Rattle.tables.specs.Answers.{refusal-of}
 use Rattle.checks.specs.Counted.{packet-refusal, counted-refused, Known}
-use Rattle.checks.proofs.Places.{place-within}
-use Rattle.checks.proofs.Firsts.{Plain, or-else-second, none-first, given-false, given-plain, or-else-plain, last-plain, below-plain, stopped}
+use Rattle.tables.proofs.Places.{place-within}
+use Rattle.tables.proofs.Firsts.{Plain, or-else-second, none-first, given-false, given-plain, or-else-plain, last-plain, below-plain, stopped}
 
 -- ── rows ──
 

@@ -11,11 +11,11 @@ use borrow.Author.Tests.{ne-eqb, eqb-false}
 use Rattle.rules.specs.Classes.{Table, Tree, parent-of, tree-of, parent, depth, sends}
 use Rattle.rules.specs.Promise.{on-way, within}
 use Rattle.rules.specs.Refusals.{given, first, first-below, class-refused, doubled, row-refused, shares-refused, table-refused}
-use Rattle.checks.specs.Lent.{Sized}
-use Rattle.checks.specs.Answers.{senders-below}
+use Rattle.tables.specs.Lent.{Sized}
+use Rattle.tables.specs.Answers.{senders-below}
 use Rattle.checks.specs.Counted.{Known}
-use Rattle.checks.proofs.Firsts.{none-first, none-second, given-false, each-none}
-use Rattle.checks.proofs.Trees.{depth-at, filled, parent-read, depth-read, rows-of, identifiers-of, earlier-within}
+use Rattle.tables.proofs.Firsts.{none-first, none-second, given-false, each-none}
+use Rattle.tables.proofs.Trees.{depth-at, filled, parent-read, depth-read, rows-of, identifiers-of, earlier-within}
 
 or-true : (b : Bool) → (b || true) ≡ true
 or-true true = refl

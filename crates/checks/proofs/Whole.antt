@@ -14,12 +14,12 @@ use Rattle.rules.specs.Limits.{most-events}
 use Rattle.rules.specs.Classes.{Table, Tree, tree-of}
 use Rattle.rules.specs.Events.{Events, count}
 use Rattle.rules.specs.Refusals.{Room, nothing, or-else, first, first-below, rows-refused, events-refused, table-refused, refused}
-use Rattle.checks.specs.Lent.{Sized}
-use Rattle.checks.specs.Answers.{senders-below, accepting, refusing, answer}
+use Rattle.tables.specs.Lent.{Sized}
+use Rattle.tables.specs.Answers.{senders-below, accepting, refusing, answer}
 use Rattle.checks.specs.Counted.{counted-refused, lengths-refused}
-use Rattle.checks.proofs.Firsts.{or-else-first, or-else-second, none-first, none-second, given-false, table-plain}
+use Rattle.tables.proofs.Firsts.{or-else-first, or-else-second, none-first, none-second, given-false, table-plain}
 use Rattle.checks.proofs.Counting.{rules-split}
-use Rattle.checks.proofs.Answering.{first-false, second-false, sized, answer-accepts}
+use Rattle.tables.proofs.Answering.{first-false, second-false, sized, answer-accepts}
 
 -- an answer has the refusal that it is made of
 pub answer-refusal : (refusal : Refusal) (tree : Tree) → answer refusal tree .refusal ≡ refusal

@@ -11,8 +11,8 @@ use Rattle.rules.specs.Classes.{Table, Tree, tree-of, sends}
 use Rattle.rules.specs.Events.{Events, length-word, event}
 use Rattle.rules.specs.Promise.{within, arrived, finish-count}
 use Rattle.rules.specs.Refusals.{Room, given, first, rows-refused, events-refused, room-refused, meeting-refused, refused}
-use Rattle.checks.specs.declared.Reading.{Reading}
-use Rattle.checks.specs.Answers.{answer}
+use Rattle.tables.specs.declared.Reading.{Reading}
+use Rattle.tables.specs.Answers.{answer}
 
 -- 3, by numbers of rows and events
 unfoldable pub room-refusal : ℕ → ℕ → Room → Refusal

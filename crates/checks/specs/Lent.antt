@@ -1,25 +1,11 @@
--- The lent lists as the rules' records, and what is known of lists that passed the first check.
-use Prim.Native.Nat.{ℕ, _≤_, _<_}
-use mathlib.Core.Path.{_≡_}
+-- The lent lists of events, and the lengths of the result slices, as the rules' records.
+use Prim.Native.Nat.{ℕ}
 use mathlib.Core.List.{List}
-use lib.ListN.{length}
-use Rattle.rules.specs.Limits.{most-rows}
-use Rattle.rules.specs.Classes.{Table}
 use Rattle.rules.specs.Events.{Events}
 use Rattle.rules.specs.Refusals.{Room}
-
-abbrev pub table-of : List ℕ → List ℕ → List ℕ → Table
-table-of identifiers parents shares = record { identifiers = identifiers; parents = parents; shares = shares }
 
 abbrev pub events-of : List ℕ → List ℕ → Events
 events-of classes lengths = record { classes = classes; lengths = lengths }
 
 abbrev pub room-of : ℕ → ℕ → ℕ → ℕ → Room
 room-of order report lags working = record { order = order; report = report; lags = lags; working = working }
-
--- a table whose lists are of one length, with some rows and not too many
-pub record Sized (table : Table) : Type 0 where
-  pub parents : length (table .parents) ≡ length (table .identifiers)
-  pub shares : length (table .shares) ≡ length (table .identifiers)
-  pub some : 0 < length (table .identifiers)
-  pub most : length (table .identifiers) ≤ most-rows

@@ -1,4 +1,3 @@
 -- What the checks' contracts cite.
 pub mod Lent
-pub mod Answers
 pub mod Counted

@@ -1,26 +1,20 @@
-// The checks: refusals of a class table, of the slices' lengths and of an event list. They read, and write nothing that is lent.
+// The checks of a whole input: refusals of the slices' lengths, of a class table and of an event list. They write nothing that is lent.
 ghost use mathlib.Core.Path.{_≡_};
-ghost use mathlib.Core.Bool.{Bool, cond};
+ghost use mathlib.Core.Bool.{Bool};
 ghost use Prim.Native.Nat.{ℕ, _≤_, _<_, _^_};
-ghost use lib.ListN.{length, take};
+ghost use lib.ListN.{length};
 ghost use lib.ListN as lists;
 ghost use Rattle.rules.specs.declared.Event.the-variants.{Arrival, Finish};
-ghost use Rattle.rules.specs.Classes.{Tree, Table, place-of, read, tree-of, share, child, has-child, sends, children-share};
+ghost use Rattle.rules.specs.Classes.{Tree};
 ghost use Rattle.rules.specs.Events.{decode};
 ghost use Rattle.rules.specs.Promise.{one-arrival, one-finish};
-ghost use Rattle.rules.specs.Refusals.{nothing, given, or-else, first-below, rows-refused, events-refused, root-refused, shares-refused, table-refused, meeting-refused};
-ghost use Rattle.checks.specs.Lent.{table-of, events-of, room-of, Sized};
-ghost use Rattle.checks.specs.Answers.{refusal-of, class-refusal, row-read, rows-read, senders-below, answer, reading};
-ghost use Rattle.checks.specs.Answers as answers;
+ghost use Rattle.rules.specs.Refusals.{first-below, events-refused, meeting-refused};
+ghost use Rattle.tables.specs.Lent.{table-of};
+ghost use Rattle.checks.specs.Lent.{events-of, room-of};
 ghost use Rattle.checks.specs.Counted.{room-refusal, lengths-refused, packet-refusal, counted-refused, checked, Known};
 use rules::Event;
 use rules::Refusal;
-
-const LEAST_ROWS: usize = 2;
-
-const MOST_ROWS: usize = 256;
-
-const MOST_DEPTH: u32 = 8;
+use tables::Reading;
 
 const MOST_EVENTS: usize = 65536;
 
@@ -28,383 +22,20 @@ const LEAST_BYTES: u32 = 1;
 
 const MOST_BYTES: u32 = 2048;
 
-// The parts that the children of a row may have together.
-const WHOLE: usize = 840;
-
 // Words of the report for a row.
 const REPORT_WORDS: usize = 5;
-
-// A row of a table as it is read: what refuses it, its parent's row, its depth.
-struct Row {
-    refusal: Refusal,
-    parent: u32,
-    depth: u32,
-}
-
-// All rows as they are read.
-struct Rows {
-    refusal: Refusal,
-    parents: [u32; 256],
-    depths: [u32; 256],
-    shares: [u32; 256],
-}
-
-// What a check answers: the first refusal, and where there is none the table as it was read, with the rows that are sending classes.
-pub struct Reading {
-    pub refusal: Refusal,
-    pub parents: [u32; 256],
-    pub depths: [u32; 256],
-    pub shares: [u32; 256],
-    pub senders: [bool; 256],
-}
-
-fn refusal(number: u32, place: usize, second: usize) -> Refusal
-    requires { ⌜ (place < 2 ^ 32) × (second < 2 ^ 32) ⌝ }
-    ensures { λ r. ⌜ r ≡ refusal-of number place second ⌝ }
-{
-    Refusal {
-        number,
-        place: place as u32,
-        second: second as u32,
-    }
-}
-
-fn none() -> Refusal
-    ensures { λ r. ⌜ r ≡ nothing ⌝ }
-{
-    Refusal {
-        number: 0,
-        place: 0,
-        second: 0,
-    }
-}
-
-// The refusal with this number at this place, if the test holds.
-fn given(test: bool, number: u32, place: usize) -> Refusal
-    requires { ⌜ place < 2 ^ 32 ⌝ }
-    ensures { λ r. ⌜ r ≡ given test number place ⌝ }
-{
-    if test {
-        refusal(number, place, 0)
-    } else {
-        none()
-    }
-}
-
-// The first of two that refuses.
-fn or_else(a: Refusal, b: Refusal) -> Refusal
-    ensures { λ r. ⌜ r ≡ or-else a b ⌝ }
-{
-    if a.number == 0 { b } else { a }
-}
-
-// The place of the first x among the first n words; the number of those words where there is none.
-fn place_of(x: u32, words: &[u32], n: usize) -> usize
-    requires { ⌜ n ≤ length (now words) ⌝ }
-    ensures { λ r. ⌜ (r ≡ place-of x (take n (now (words .entry)))) × (r ≤ n) ⌝ }
-{
-    let mut i = 0;
-    while i < n {
-        if words[i] == x {
-            return i;
-        }
-        i += 1;
-    }
-    i
-}
-
-// The row of the class with this identifier; the number of rows where there is none.
-pub fn row_of(identifiers: &[u32], class: u32) -> usize
-    ensures { λ r. ⌜ (r ≡ place-of class (now (identifiers .entry))) × (r ≤ length (now (identifiers .entry))) ⌝ }
-{
-    place_of(class, identifiers, identifiers.len())
-}
-
-// 1: the row slices are unequal, or the rows too few or too many.
-fn rows_refused(identifiers: &[u32], parents: &[u32], shares: &[u32]) -> Refusal
-    ensures { λ r. ⌜ r ≡ rows-refused (table-of (now (identifiers .entry)) (now (parents .entry)) (now (shares .entry))) ⌝ }
-{
-    let rows = identifiers.len();
-    if parents.len() != rows {
-        return refusal(1, 0, 0);
-    }
-    if shares.len() != rows {
-        return refusal(1, 0, 0);
-    }
-    if rows < LEAST_ROWS {
-        return refusal(1, 0, 0);
-    }
-    if MOST_ROWS < rows {
-        return refusal(1, 0, 0);
-    }
-    none()
-}
-
-// Row 0: 4 and 6.
-fn root_refused(identifiers: &[u32], parents: &[u32], shares: &[u32]) -> Refusal
-    requires { ⌜ Sized (table-of (now identifiers) (now parents) (now shares)) ⌝ }
-    ensures { λ r. ⌜ r ≡ root-refused (table-of (now (identifiers .entry)) (now (parents .entry)) (now (shares .entry))) ⌝ }
-{
-    if identifiers[0] == 0 {
-        return refusal(4, 0, 0);
-    }
-    if parents[0] != 0 {
-        return refusal(6, 0, 0);
-    }
-    if shares[0] != 0 {
-        return refusal(6, 0, 0);
-    }
-    none()
-}
-
-// Any other row, by its identifier, the first row that has that identifier, its parent's row, its share and its depth: 4, 5, 7, 8, 9.
-fn class_refused(
-    r: usize,
-    identifier: u32,
-    earlier: usize,
-    parent: usize,
-    share: u32,
-    depth: u32,
-) -> Refusal
-    requires { ⌜ r < 256 ⌝ }
-    ensures { λ f. ⌜ f ≡ class-refusal r identifier earlier parent share depth ⌝ }
-{
-    if identifier == 0 {
-        return refusal(4, r, 0);
-    }
-    if earlier < r {
-        return refusal(5, r, earlier);
-    }
-    if parent == r {
-        return refusal(7, r, 0);
-    }
-    if !shares::allowed(share) {
-        return refusal(8, r, 0);
-    }
-    if MOST_DEPTH < depth {
-        return refusal(9, r, 0);
-    }
-    none()
-}
-
-// Row r, read after the rows before it, whose depths are known.
-fn read_row(
-    identifiers: &[u32],
-    parents: &[u32],
-    shares: &[u32],
-    depths: &[u32; 256],
-    r: usize,
-) -> Row
-    requires { ⌜ Sized (table-of (now identifiers) (now parents) (now shares)) × (r < length (now identifiers))
-        × (now depths ≡ read (table-of (now identifiers) (now parents) (now shares)) r .depths) ⌝ }
-    ensures { λ row. ⌜ row ≡ row-read (table-of (now (identifiers .entry)) (now (parents .entry)) (now (shares .entry))) r ⌝ }
-{
-    let parent = place_of(parents[r], identifiers, r);
-    if r == 0 {
-        return Row {
-            refusal: root_refused(identifiers, parents, shares),
-            parent: parent as u32,
-            depth: 0,
-        };
-    }
-    let depth = depths[parent] + 1;
-    let identifier = identifiers[r];
-    let earlier = place_of(identifier, identifiers, r);
-    Row {
-        refusal: class_refused(r, identifier, earlier, parent, shares[r], depth),
-        parent: parent as u32,
-        depth,
-    }
-}
-
-// All rows, one after the other.
-fn read_rows(identifiers: &[u32], parents: &[u32], shares: &[u32]) -> Rows
-    requires { ⌜ Sized (table-of (now identifiers) (now parents) (now shares)) ⌝ }
-    ensures { λ rows. ⌜ rows ≡ rows-read (table-of (now (identifiers .entry)) (now (parents .entry)) (now (shares .entry))) (length (now (identifiers .entry))) ⌝ }
-{
-    let mut refusal = none();
-    let mut rows_above = [0u32; 256];
-    let mut depths = [0u32; 256];
-    let mut parts = [0u32; 256];
-    let mut r = 0;
-    while r < identifiers.len() {
-        let row = read_row(identifiers, parents, shares, &depths, r);
-        refusal = or_else(refusal, row.refusal);
-        rows_above[r] = row.parent;
-        depths[r] = row.depth;
-        parts[r] = shares[r];
-        r += 1;
-    }
-    Rows {
-        refusal,
-        parents: rows_above,
-        depths,
-        shares: parts,
-    }
-}
-
-fn wide(x: u32) -> usize
-    ensures { λ r. ⌜ (r ≡ x) × (r < 2 ^ 32) ⌝ }
-{
-    x as usize
-}
-
-// Whether row r is a child of row p.
-fn child(parents: &[u32; 256], p: usize, r: usize) -> bool
-    requires { ⌜ r < 256 ⌝ }
-    ensures { λ b. ⌜ ((tree : Tree) → tree .parents ≡ now (parents .entry) → b ≡ child tree p r) ⌝ }
-{
-    if r == 0 {
-        return false;
-    }
-    wide(parents[r]) == p
-}
-
-// The share of row r if it is a child of row p.
-fn child_share(parents: &[u32; 256], shares: &[u32; 256], p: usize, r: usize) -> usize
-    requires { ⌜ r < 256 ⌝ }
-    ensures { λ s. ⌜ (s < 2 ^ 32) × ((tree : Tree) → tree .parents ≡ now (parents .entry) → tree .shares ≡ now (shares .entry)
-        → s ≡ cond (child tree p r) (share tree r) 0) ⌝ }
-{
-    if child(parents, p, r) {
-        return wide(shares[r]);
-    }
-    0
-}
-
-// The shares of row p's children, added up.
-fn children_share(parents: &[u32; 256], shares: &[u32; 256], p: usize, rows: usize) -> usize
-    requires { ⌜ rows ≤ 256 ⌝ }
-    ensures { λ s. ⌜ ((tree : Tree) → tree .parents ≡ now (parents .entry) → tree .shares ≡ now (shares .entry)
-        → s ≡ children-share tree p rows) ⌝ }
-{
-    let mut sum = 0;
-    let mut r = 0;
-    while r < rows {
-        sum += child_share(parents, shares, p, r);
-        r += 1;
-    }
-    sum
-}
-
-// 10, at the lowest parent row.
-fn shares_refused(parents: &[u32; 256], shares: &[u32; 256], rows: usize) -> Refusal
-    requires { ⌜ rows ≤ 256 ⌝ }
-    ensures { λ f. ⌜ ((table : Table) → length (table .identifiers) ≡ rows
-        → tree-of table .parents ≡ now (parents .entry) → tree-of table .shares ≡ now (shares .entry)
-        → f ≡ first-below (shares-refused table) rows) ⌝ }
-{
-    let mut refusal = none();
-    let mut p = 0;
-    while p < rows {
-        let sum = children_share(parents, shares, p, rows);
-        refusal = or_else(refusal, given(WHOLE < sum, 10, p));
-        p += 1;
-    }
-    refusal
-}
-
-// Whether row p has a child.
-fn has_child(parents: &[u32; 256], p: usize, rows: usize) -> bool
-    requires { ⌜ rows ≤ 256 ⌝ }
-    ensures { λ b. ⌜ ((tree : Tree) → tree .parents ≡ now (parents .entry) → b ≡ has-child tree p rows) ⌝ }
-{
-    let mut r = 0;
-    while r < rows {
-        if child(parents, p, r) {
-            return true;
-        }
-        r += 1;
-    }
-    false
-}
-
-// Whether row r is a sending class.
-fn sends(parents: &[u32; 256], r: usize, rows: usize) -> bool
-    requires { ⌜ rows ≤ 256 ⌝ }
-    ensures { λ b. ⌜ ((tree : Tree) → tree .parents ≡ now (parents .entry) → tree .rows ≡ rows → b ≡ sends tree r) ⌝ }
-{
-    if r == 0 {
-        return false;
-    }
-    !has_child(parents, r, rows)
-}
-
-// Which rows are sending classes.
-fn senders_of(parents: &[u32; 256], rows: usize) -> [bool; 256]
-    requires { ⌜ rows ≤ 256 ⌝ }
-    ensures { λ s. ⌜ ((tree : Tree) → tree .parents ≡ now (parents .entry) → tree .rows ≡ rows → s ≡ senders-below tree rows) ⌝ }
-{
-    let mut senders = [false; 256];
-    let mut r = 0;
-    while r < rows {
-        senders[r] = sends(parents, r, rows);
-        r += 1;
-    }
-    senders
-}
-
-// A refusal, and nothing else.
-fn refusing(refusal: Refusal) -> Reading
-    ensures { λ r. ⌜ r ≡ answers.refusing refusal ⌝ }
-{
-    Reading {
-        refusal,
-        parents: [0u32; 256],
-        depths: [0u32; 256],
-        shares: [0u32; 256],
-        senders: [false; 256],
-    }
-}
-
-// A table whose slices have one length that is not refused.
-fn read_sized(identifiers: &[u32], parents: &[u32], shares: &[u32]) -> Reading
-    requires { ⌜ Sized (table-of (now identifiers) (now parents) (now shares)) ⌝ }
-    ensures { λ r. ⌜ r ≡ answer (table-refused (table-of (now (identifiers .entry)) (now (parents .entry)) (now (shares .entry))))
-        (tree-of (table-of (now (identifiers .entry)) (now (parents .entry)) (now (shares .entry)))) ⌝ }
-{
-    let rows = read_rows(identifiers, parents, shares);
-    let rows_refusal = rows.refusal;
-    let rows_above = rows.parents;
-    let depths = rows.depths;
-    let parts = rows.shares;
-    let shares_refusal = shares_refused(&rows_above, &parts, identifiers.len());
-    let refusal = or_else(rows_refusal, shares_refusal);
-    if refusal.number != 0 {
-        return refusing(refusal);
-    }
-    let senders = senders_of(&rows_above, identifiers.len());
-    Reading {
-        refusal,
-        parents: rows_above,
-        depths,
-        shares: parts,
-        senders,
-    }
-}
-
-// The check of a class table by itself.
-pub fn read_table(identifiers: &[u32], parents: &[u32], shares: &[u32]) -> Reading
-    ensures { λ r. ⌜ r ≡ reading (table-of (now (identifiers .entry)) (now (parents .entry)) (now (shares .entry))) ⌝ }
-{
-    let refusal = rows_refused(identifiers, parents, shares);
-    if refusal.number != 0 {
-        return refusing(refusal);
-    }
-    read_sized(identifiers, parents, shares)
-}
 
 // 2: the event slices are unequal, or there are too many events.
 fn events_refused(classes: &[u32], lengths: &[u32]) -> Refusal
     ensures { λ r. ⌜ r ≡ events-refused (events-of (now (classes .entry)) (now (lengths .entry))) ⌝ }
 {
     if lengths.len() != classes.len() {
-        return refusal(2, 0, 0);
+        return tables::refusal(2, 0, 0);
     }
     if MOST_EVENTS < classes.len() {
-        return refusal(2, 0, 0);
+        return tables::refusal(2, 0, 0);
     }
-    none()
+    tables::none()
 }
 
 // 3: a result slice is too short for so many rows and events.
@@ -420,18 +51,18 @@ fn room_refused(
     ensures { λ r. ⌜ r ≡ room-refusal rows events (room-of order report lags working) ⌝ }
 {
     if order < events {
-        return refusal(3, 0, 0);
+        return tables::refusal(3, 0, 0);
     }
     if working < events {
-        return refusal(3, 0, 0);
+        return tables::refusal(3, 0, 0);
     }
     if report < REPORT_WORDS * rows {
-        return refusal(3, 0, 0);
+        return tables::refusal(3, 0, 0);
     }
     if lags < rows {
-        return refusal(3, 0, 0);
+        return tables::refusal(3, 0, 0);
     }
-    none()
+    tables::none()
 }
 
 // The check of the lengths: those of the lent slices of a table and of an event list, and those of the result slices.
@@ -449,7 +80,7 @@ pub fn check_lengths(
     ensures { λ r. ⌜ r ≡ lengths-refused (table-of (now (identifiers .entry)) (now (parents .entry)) (now (shares .entry)))
         (events-of (now (classes .entry)) (now (lengths .entry))) (room-of order report lags working) ⌝ }
 {
-    let rows = rows_refused(identifiers, parents, shares);
+    let rows = tables::rows_refused(identifiers, parents, shares);
     let events = events_refused(classes, lengths);
     let room = room_refused(
         identifiers.len(),
@@ -459,7 +90,7 @@ pub fn check_lengths(
         lags,
         working,
     );
-    or_else(rows, or_else(events, room))
+    tables::or_else(rows, tables::or_else(events, room))
 }
 
 // What the two words of an event mean.
@@ -504,15 +135,15 @@ fn packet_refused(i: usize, sending: bool, length: u32) -> Refusal
     ensures { λ r. ⌜ r ≡ packet-refusal i sending length ⌝ }
 {
     if !sending {
-        return refusal(12, i, 0);
+        return tables::refusal(12, i, 0);
     }
     if length < LEAST_BYTES {
-        return refusal(13, i, 0);
+        return tables::refusal(13, i, 0);
     }
     if MOST_BYTES < length {
-        return refusal(13, i, 0);
+        return tables::refusal(13, i, 0);
     }
-    none()
+    tables::none()
 }
 
 // An arrival: 11, 12, 13.
@@ -527,9 +158,9 @@ fn arrival_refused(
     ensures { λ f. ⌜ ((tree : Tree) (word : ℕ) (idle : Bool) → Known tree (now (identifiers .entry)) (now (senders .entry))
         → f ≡ meeting-refused tree i word (Arrival class length) idle) ⌝ }
 {
-    let row = row_of(identifiers, class);
+    let row = tables::row_of(identifiers, class);
     if row == identifiers.len() {
-        return refusal(11, i, 0);
+        return tables::refusal(11, i, 0);
     }
     packet_refused(i, senders[row], length)
 }
@@ -539,9 +170,9 @@ fn finish_refused(i: usize, word: u32, idle: bool) -> Refusal
     requires { ⌜ i < 65536 ⌝ }
     ensures { λ f. ⌜ ((tree : Tree) → f ≡ meeting-refused tree i word Finish idle) ⌝ }
 {
-    let wrong = given(word != 0, 13, i);
-    let early = given(idle, 14, i);
-    or_else(wrong, early)
+    let wrong = tables::given(word != 0, 13, i);
+    let early = tables::given(idle, 14, i);
+    tables::or_else(wrong, early)
 }
 
 // An event at place i, with its length word, where the line is idle or not.
@@ -587,7 +218,7 @@ fn list_refused(
         finishes += one_finish(event);
         i += 1;
     }
-    none()
+    tables::none()
 }
 
 // The check of a whole input.
@@ -617,9 +248,9 @@ pub fn check(
         working,
     );
     if unfit.number != 0 {
-        return refusing(unfit);
+        return tables::refusing(unfit);
     }
-    let reading = read_sized(identifiers, parents, shares);
+    let reading = tables::read_sized(identifiers, parents, shares);
     let bad = reading.refusal;
     if bad.number != 0 {
         return reading;
@@ -627,7 +258,7 @@ pub fn check(
     let senders = reading.senders;
     let refusal = list_refused(identifiers, &senders, classes, lengths);
     if refusal.number != 0 {
-        return refusing(refusal);
+        return tables::refusing(refusal);
     }
     reading
 }

@@ -19,12 +19,12 @@ use Rattle.laws.specs.History.{Accepted}
 use Rattle.laws.proofs.Trees.{share-whole, accepted}
 use Rattle.laws.proofs.Outset.{zeros-at}
 use Rattle.counts.specs.Given.{Sending}
-use Rattle.checks.specs.Lent.{Sized}
-use Rattle.checks.specs.Answers.{senders-below}
+use Rattle.tables.specs.Lent.{Sized}
+use Rattle.tables.specs.Answers.{senders-below}
 use Rattle.checks.specs.Counted.{Known, lengths-refused}
-use Rattle.checks.proofs.Firsts.{none-first, none-second, or-else-second, given-false, each-none}
-use Rattle.checks.proofs.Answering.{first-false, second-false, sized}
-use Rattle.checks.proofs.Trees.{filled, parent-read, rows-of, identifiers-of, earlier-within}
+use Rattle.tables.proofs.Firsts.{none-first, none-second, or-else-second, given-false, each-none}
+use Rattle.tables.proofs.Answering.{first-false, second-false, sized}
+use Rattle.tables.proofs.Trees.{filled, parent-read, rows-of, identifiers-of, earlier-within}
 use Rattle.checks.proofs.Rooted.{known}
 use Rattle.checks.proofs.Whole.{Listed, whole-listed}
 use Rattle.events.specs.State.{tree-at, Fit}

@@ -16,10 +16,10 @@ use Rattle.rules.specs.Steps.{after}
 use Rattle.rules.specs.Refusals.{Room, refused}
 use Rattle.rules.specs.Outcome.{Lent, over, room-of, refusing, doing, outcome}
 use Rattle.counts.specs.Given.{Sending}
-use Rattle.checks.specs.declared.Reading.{Reading}
-use Rattle.checks.specs.Answers.{accepting, senders-below}
+use Rattle.tables.specs.declared.Reading.{Reading}
+use Rattle.tables.specs.Answers.{accepting, senders-below}
 use Rattle.checks.specs.Counted.{checked}
-use Rattle.checks.proofs.Answering.{answer-accepts}
+use Rattle.tables.proofs.Answering.{answer-accepts}
 use Rattle.checks.proofs.Whole.{answer-refusal}
 use Rattle.events.specs.State.{tree-at, Fit}
 use Rattle.engine.specs.Served.{Served}

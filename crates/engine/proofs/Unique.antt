@@ -13,8 +13,8 @@ use Rattle.rules.specs.Classes.{Table, place-of}
 use Rattle.rules.specs.Events.{Events, decode}
 use Rattle.rules.specs.Refusals.{Room}
 use Rattle.rules.specs.Outcome.{Outcome, outcome}
-use Rattle.checks.specs.declared.Reading.{Reading}
-use Rattle.checks.specs.Answers.{reading}
+use Rattle.tables.specs.declared.Reading.{Reading}
+use Rattle.tables.specs.Answers.{reading}
 use Rattle.checks.specs.Counted.{lengths-refused, checked}
 use Rattle.engine.specs.Run.{lent-of, left-of}
 

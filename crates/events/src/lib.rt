@@ -168,7 +168,7 @@ pub fn step(
     match event {
         Event::Arrival { class, length } => {
             let idle = heads[0] == 0;
-            let k = checks::row_of(identifiers, class);
+            let k = tables::row_of(identifiers, class);
             arrive(
                 identifiers.len(),
                 parents,

@@ -7,10 +7,11 @@ use borrow.Author.Needs.{needs}
 use Rattle.rules.specs.Classes.{Table, tree-of}
 use Rattle.rules.specs.Events.{Events, count}
 use Rattle.rules.specs.Refusals.{Room, first-below, table-refused}
-use Rattle.checks.specs.declared.Reading.{Reading}
-use Rattle.checks.specs.Lent.{table-of, events-of, room-of}
+use Rattle.tables.specs.declared.Reading.{Reading}
+use Rattle.tables.specs.Lent.{table-of}
+use Rattle.checks.specs.Lent.{events-of, room-of}
 use Rattle.checks.specs.Counted.{lengths-refused, counted-refused, checked, Known}
-use Rattle.checks.proofs.Answering.{answer-refuses}
+use Rattle.tables.proofs.Answering.{answer-refuses}
 use Rattle.checks.proofs.Rooted.{known}
 use Rattle.checks.proofs.Whole.{answer-refusal, answer-senders, by-lengths, by-table, by-list, by-none, whole-sized, whole-listed}
 use Rattle.checks.proofs.check.Statement.{statement}

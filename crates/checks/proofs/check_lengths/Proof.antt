@@ -5,7 +5,7 @@ use native.Mathlib.Omega.{arith}
 use borrow.Author.Needs.{needs}
 use Rattle.rules.specs.Refusals.{or-else, first, room-refused}
 use Rattle.checks.specs.Counted.{room-refusal, lengths-refused}
-use Rattle.checks.proofs.Firsts.{given-last}
+use Rattle.tables.proofs.Firsts.{given-last}
 use Rattle.checks.proofs.check_lengths.Statement.{statement}
 use Rattle.checks.proofs.check_lengths.Tie as tie
 

@@ -2,7 +2,7 @@
 -- Assumes nothing.
 use borrow.Author.Needs.{needs}
 use Rattle.rules.specs.Refusals.{events-refused, given, nothing}
-use Rattle.checks.proofs.Tests.{tests}
+use Rattle.tables.proofs.Tests.{tests}
 use Rattle.checks.proofs.events_refused.Statement.{statement}
 use Rattle.checks.proofs.events_refused.Tie as tie
 

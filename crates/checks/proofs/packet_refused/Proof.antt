@@ -3,7 +3,7 @@
 use borrow.Author.Needs.{needs}
 use Rattle.rules.specs.Refusals.{first, or-else, given, nothing}
 use Rattle.checks.specs.Counted.{packet-refusal}
-use Rattle.checks.proofs.Tests.{tests}
+use Rattle.tables.proofs.Tests.{tests}
 use Rattle.checks.proofs.packet_refused.Statement.{statement}
 use Rattle.checks.proofs.packet_refused.Tie as tie
 

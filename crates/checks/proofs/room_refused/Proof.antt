@@ -3,7 +3,7 @@
 use borrow.Author.Needs.{needs}
 use Rattle.rules.specs.Refusals.{given, nothing}
 use Rattle.checks.specs.Counted.{room-refusal}
-use Rattle.checks.proofs.Tests.{tests}
+use Rattle.tables.proofs.Tests.{tests}
 use Rattle.checks.proofs.room_refused.Statement.{statement}
 use Rattle.checks.proofs.room_refused.Tie as tie
 

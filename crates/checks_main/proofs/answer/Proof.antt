@@ -1,0 +1,42 @@
+-- `checks_main::answer` is safe and ends: the loop passes the bytes one by one.
+-- Assumes nothing.
+use Prim.Native.Nat.{_≤_, _-_}
+use lib.ListN.{length}
+use borrow.Author.Needs.{needs}
+use Rattle.checks_main.proofs.answer.Statement.{statement}
+use Rattle.checks_main.proofs.answer.Tie as tie
+
+abbrev Inv-loop : tie.InvT-loop
+Inv-loop words₀ text s₀ i₀ words s i = i ≤ length text
+
+abbrev μ-loop : tie.MeasureT-loop
+μ-loop words₀ text s₀ i₀ words s i = length text - i
+
+fresh-requires : tie.Need-fresh-requires Inv-loop μ-loop
+fresh-requires c κs = search needs
+
+loop-holds : tie.Need-loop-holds Inv-loop μ-loop
+loop-holds c = search needs
+
+shared-slice-read-step : tie.Need-shared-slice-read-step Inv-loop μ-loop
+shared-slice-read-step c = search needs
+
+step-requires : tie.Need-step-requires Inv-loop μ-loop
+step-requires c κs = search needs
+
+add-i : tie.Need-add-i Inv-loop μ-loop
+add-i c = search needs
+
+loop-less : tie.Need-loop-less Inv-loop μ-loop
+loop-less c = search needs
+
+loop-again : tie.Need-loop-again Inv-loop μ-loop
+loop-again c = search needs
+
+returns : tie.Need-returns Inv-loop μ-loop
+returns c = search needs
+
+pub answer-spec : {M : Type 1} → statement M
+answer-spec =
+    tie.close
+    (tie.spec Inv-loop μ-loop fresh-requires loop-holds shared-slice-read-step step-requires add-i loop-less loop-again returns)

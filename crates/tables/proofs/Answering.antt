@@ -1,0 +1,90 @@
+-- Which answer it is, by the refusal's number; what a table that passed the first check is known to be.
+-- Assumes nothing.
+use Prim.Native.Nat.{ℕ}
+use mathlib.Core.Path.{_≡_, refl}
+use mathlib.Core.Bool.{Bool, true, false, not, _||_}
+use mathlib.Core.Logic.{_≢_}
+use mathlib.Core.List.{List}
+use native.Mathlib.Omega.{arith}
+use lib.Dec.{eqb, ltb}
+use lib.ListN.{length}
+use borrow.Author.Tests.{eq-eqb, ne-eqb, eqb-true, ltb-false, not-false}
+use Rattle.rules.specs.declared.Refusal.{Refusal}
+use Rattle.rules.specs.Limits.{least-rows, most-rows}
+use Rattle.rules.specs.Classes.{Table, Tree, tree-of}
+use Rattle.rules.specs.Refusals.{or-else, first-below, rows-refused, shares-refused, table-refused}
+use Rattle.tables.specs.declared.Rows.{Rows}
+use Rattle.tables.specs.declared.Reading.{Reading}
+use Rattle.tables.specs.Lent.{Sized}
+use Rattle.tables.specs.Answers.{rows-read, senders-below, accepting, refusing, answer}
+use Rattle.tables.proofs.Firsts.{given-false}
+use Rattle.tables.proofs.Trees.{rows-of}
+
+pub answer-refuses : (refusal : Refusal) (tree : Tree) → refusal .number ≢ 0 → answer refusal tree ≡ refusing refusal
+unfolding answer
+answer-refuses refusal tree some = rw (ne-eqb (refusal .number) 0 some)
+
+pub answer-accepts : (refusal : Refusal) (tree : Tree) → refusal .number ≡ 0 → answer refusal tree ≡ accepting refusal tree
+unfolding answer
+answer-accepts refusal tree none = rw (eq-eqb (refusal .number) 0 none)
+
+-- ── a table that is not refused by its lengths ──
+
+pub first-false : (a b : Bool) → (a || b) ≡ false → a ≡ false
+first-false true b e = e
+first-false false b e = refl
+
+pub second-false : (a b : Bool) → (a || b) ≡ false → b ≡ false
+second-false true b e = absurd (never e)
+  where
+    never : true ≡ false → ⊥
+    never p = let z : _≡_ {A = ℕ} 0 1 = cc in omega arith
+second-false false b e = e
+
+pub sized : (table : Table) → rows-refused table .number ≡ 0 → Sized table
+unfolding rows-refused
+sized table none =
+    let n = length (table .identifiers) in
+    let a = not (eqb (length (table .parents)) n) in
+    let b = not (eqb (length (table .shares)) n) in
+    let c = ltb n least-rows in
+    let d = ltb most-rows n in
+    let all = given-false (a || b || c || d) 1 0 (omega arith) none in
+    let three = first-false (a || b || c) d all in
+    let two = first-false (a || b) c three in
+    let some = ltb-false n least-rows (second-false (a || b) c three) in
+    record {
+      parents = eqb-true (length (table .parents)) n (not-false (eqb (length (table .parents)) n) (first-false a b two));
+      shares = eqb-true (length (table .shares)) n (not-false (eqb (length (table .shares)) n) (second-false a b two));
+      some = omega arith;
+      most = ltb-false most-rows n (second-false (a || b || c) d all);
+    }
+
+-- ── a table of one length ──
+
+abbrev pub reading-of : Refusal → Rows → List Bool → Reading
+reading-of refusal rows senders =
+    record { refusal = refusal; parents = rows .parents; depths = rows .depths; shares = rows .shares; senders = senders }
+
+module _ (table : Table) (rows : Rows) (eRows : rows ≡ rows-read table (length (table .identifiers))) where
+  pub parents-read : tree-of table .parents ≡ rows .parents
+  unfolding tree-of rows-read
+  parents-read = rw eRows refl
+
+  pub shares-read : tree-of table .shares ≡ rows .shares
+  unfolding tree-of rows-read
+  shares-read = rw eRows refl
+
+  pub table-refusal : (f g : Refusal) → f ≡ first-below (shares-refused table) (length (table .identifiers)) → g ≡ or-else
+      (rows .refusal) f → g ≡ table-refused table
+  unfolding table-refused rows-read
+  table-refusal f g eF eG = rw (eG, eRows, eF) refl
+
+  pub tree-rows : tree-of table .rows ≡ length (table .identifiers)
+  unfolding tree-of
+  tree-rows = rows-of table (length (table .identifiers))
+
+  pub accepted : (refusal : Refusal) (senders : List Bool) → senders ≡ senders-below (tree-of table) (length (table .identifiers))
+      → reading-of refusal rows senders ≡ accepting refusal (tree-of table)
+  unfolding accepting tree-of rows-read
+  accepted refusal senders e = rw (eRows, e, tree-rows) refl

@@ -1,0 +1,71 @@
+-- `tables::class_refused` meets its contract: each answer by the tests on its way.
+-- Assumes nothing.
+use mathlib.Core.Path.{_≡_}
+use mathlib.Core.Bool.{true, false, not}
+use borrow.Author.Needs.{needs}
+use Rattle.rules.specs.Shares.{allowed}
+use Rattle.rules.specs.Refusals.{first, or-else, given, nothing}
+use Rattle.tables.specs.Answers.{class-refusal}
+use Rattle.tables.proofs.Tests.{tests}
+use Rattle.tables.proofs.class_refused.Statement.{statement}
+use Rattle.tables.proofs.class_refused.Tie as tie
+
+refusal-requires : tie.Need-refusal-requires
+refusal-requires c κs = search needs
+
+returns : tie.Need-returns
+unfolding class-refusal first or-else given nothing
+returns c = search tests
+
+refusal-requires-2 : tie.Need-refusal-requires-2
+refusal-requires-2 c κs = search needs
+
+returns-2 : tie.Need-returns-2
+unfolding class-refusal first or-else given nothing
+returns-2 c = search tests
+
+refusal-requires-3 : tie.Need-refusal-requires-3
+refusal-requires-3 c κs = search needs
+
+returns-3 : tie.Need-returns-3
+unfolding class-refusal first or-else given nothing
+returns-3 c = search tests
+
+allowed-requires : tie.Need-allowed-requires
+allowed-requires c κs = search needs
+
+refusal-requires-4 : tie.Need-refusal-requires-4
+refusal-requires-4 c κs = search needs
+
+returns-4 : tie.Need-returns-4
+unfolding class-refusal first or-else given nothing
+returns-4 c =
+    let other : not (allowed (c .before .before .before .before .before .before .args .share)) ≡ true =
+    rw (← c .before .before .allowed .ensures) (c .before .if4 .taken)
+    in search (tests, other)
+
+refusal-requires-5 : tie.Need-refusal-requires-5
+refusal-requires-5 c κs = search needs
+
+returns-5 : tie.Need-returns-5
+unfolding class-refusal first or-else given nothing
+returns-5 c =
+    let fine : not (allowed (c .before .before .before .before .before .before .before .args .share)) ≡ false =
+    rw (← c .before .before .before .allowed .ensures) (c .before .before .if4 .left)
+    in search (tests, fine)
+
+none-requires : tie.Need-none-requires
+none-requires c κs = search needs
+
+returns-6 : tie.Need-returns-6
+unfolding class-refusal first or-else given nothing
+returns-6 c =
+    let fine : not (allowed (c .before .before .before .before .before .before .before .args .share)) ≡ false =
+    rw (← c .before .before .before .allowed .ensures) (c .before .before .if4 .left)
+    in search (tests, fine)
+
+pub class-refused-spec : {M : Type 1} → statement M
+class-refused-spec =
+    tie.close
+    (tie.spec refusal-requires returns refusal-requires-2 returns-2 refusal-requires-3 returns-3 allowed-requires
+    refusal-requires-4 returns-4 refusal-requires-5 returns-5 none-requires returns-6)

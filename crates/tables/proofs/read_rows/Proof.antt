@@ -1,0 +1,94 @@
+-- `tables::read_rows` meets its contract: the lists are those of the rows passed.
+-- Assumes nothing.
+use Prim.Native.Nat.{_-_, _≤_}
+use mathlib.Core.Path.{_≡_, ap}
+use native.Mathlib.Numerals.{add-one}
+use native.Mathlib.Omega.{arith}
+use borrow.Author.Needs.{needs}
+use lib.ListN.{length}
+use Rattle.rules.specs.Classes.{zeros, read}
+use Rattle.rules.specs.Refusals.{first-below}
+use Rattle.tables.specs.declared.Rows.{Rows}
+use Rattle.tables.specs.Lent.{table-of}
+use Rattle.tables.specs.Answers.{rows-read}
+use Rattle.tables.proofs.OneRow.{rows-of, rows-more}
+use Rattle.tables.proofs.read_rows.Statement.{statement}
+use Rattle.tables.proofs.read_rows.Tie as tie
+
+abbrev Inv-loop : tie.InvT-loop
+Inv-loop identifiers parents shares refusal₀ rows-above₀ depths₀ parts₀ r₀ refusal rows-above depths parts r =
+    (r ≤ length identifiers) × (rows-of refusal rows-above depths parts ≡ rows-read (table-of identifiers parents shares) r)
+
+abbrev μ-loop : tie.MeasureT-loop
+μ-loop identifiers parents shares refusal₀ rows-above₀ depths₀ parts₀ r₀ refusal rows-above depths parts r = length identifiers - r
+
+none-requires : tie.Need-none-requires Inv-loop μ-loop
+none-requires c κs = search needs
+
+loop-holds : tie.Need-loop-holds Inv-loop μ-loop
+unfolding rows-read first-below read zeros
+loop-holds c = (omega arith, rw (c .none .ensures))
+
+read-row-requires : tie.Need-read-row-requires Inv-loop μ-loop
+unfolding rows-read
+read-row-requires c κs = (
+  c .before .before .before .before .before .before .before .pre,
+  search needs,
+  ap (λ (rows : Rows). rows .depths)
+      (c .before .before .loop .inv .1),
+)
+
+or-else-requires : tie.Need-or-else-requires Inv-loop μ-loop
+or-else-requires c κs = search needs
+
+mul-rows-above : tie.Need-mul-rows-above Inv-loop μ-loop
+mul-rows-above c = search needs
+
+array-write-rows-above : tie.Need-array-write-rows-above Inv-loop μ-loop
+array-write-rows-above c = search needs
+
+mul-depths : tie.Need-mul-depths Inv-loop μ-loop
+mul-depths c = search needs
+
+array-write-depths : tie.Need-array-write-depths Inv-loop μ-loop
+array-write-depths c = search needs
+
+mul-parts : tie.Need-mul-parts Inv-loop μ-loop
+mul-parts c = search needs
+
+shared-slice-read-parts : tie.Need-shared-slice-read-parts Inv-loop μ-loop
+shared-slice-read-parts c = search needs
+
+mul-parts-2 : tie.Need-mul-parts-2 Inv-loop μ-loop
+mul-parts-2 c = search needs
+
+array-write-parts : tie.Need-array-write-parts Inv-loop μ-loop
+array-write-parts c = search needs
+
+add-r : tie.Need-add-r Inv-loop μ-loop
+add-r c = search needs
+
+loop-less : tie.Need-loop-less Inv-loop μ-loop
+loop-less c = search needs
+
+loop-again : tie.Need-loop-again Inv-loop μ-loop
+loop-again c =
+    let s = c .before .before .before .before .before .before .before .before .before .before in
+    let at = c .before .before .before .before .before .loop in (
+      omega arith,
+      rw (add-one, c .before .or-else .ensures)
+          (rows-more (table-of (s .args .identifiers .now) (s .args .parents .now) (s .args .shares .now)) (s .pre) (at .r) (omega arith)
+          (rows-of (at .refusal) (at .rows-above) (at .depths) (at .parts)) (c .before .before .read-row .result) (at .inv .1)
+          (c .before .before .read-row .ensures)),
+    )
+
+returns : tie.Need-returns Inv-loop μ-loop
+returns c =
+    let end : c .before .loop .r ≡ length (c .before .before .before .before .before .before .args .identifiers .now) = omega arith in
+    rw (← end) (c .before .loop .inv .1)
+
+pub read-rows-spec : {M : Type 1} → statement M
+read-rows-spec =
+    tie.close
+    (tie.spec Inv-loop μ-loop none-requires loop-holds read-row-requires or-else-requires mul-rows-above array-write-rows-above
+    mul-depths array-write-depths mul-parts shared-slice-read-parts mul-parts-2 array-write-parts add-r loop-less loop-again returns)

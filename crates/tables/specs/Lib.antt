@@ -1,0 +1,3 @@
+-- What the contracts on class tables cite.
+pub mod Lent
+pub mod Answers
