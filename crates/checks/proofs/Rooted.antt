@@ -9,7 +9,7 @@ use lib.Dec.{eqb}
 use lib.ListN.{length, getD, length-replicate}
 use borrow.Author.Tests.{ne-eqb, eqb-false}
 use Rattle.rules.specs.Classes.{Table, Tree, parent-of, tree-of, parent, depth, sends}
-use Rattle.rules.specs.Promise.{on-way, within}
+use Rattle.rules.specs.Promise.{path-has, within}
 use Rattle.rules.specs.Refusals.{given, first, first-below, class-refused, doubled, row-refused, shares-refused, table-refused}
 use Rattle.tables.specs.Lent.{Sized}
 use Rattle.tables.specs.Answers.{senders-below}
@@ -73,8 +73,8 @@ module _ (table : Table) (sized : Sized table) (fine : table-refused table .numb
         ne-eqb (suc r) 0 (omega arith),
       ) refl
 
-  on-root : (d r : ℕ) → r < rows → depth (tree-of table) r ≡ d → on-way d (tree-of table) r 0 ≡ true
-  unfolding on-way
+  on-root : (d r : ℕ) → r < rows → depth (tree-of table) r ≡ d → path-has d (tree-of table) r 0 ≡ true
+  unfolding path-has
   on-root zero zero inside at = refl
   on-root zero (suc r) inside at = absurd (let more = depth-more r inside in omega arith)
   on-root (suc d) zero inside at = refl

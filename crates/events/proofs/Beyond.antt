@@ -21,12 +21,13 @@ use Rattle.laws.specs.Moves.{Full, SameHead, SameRow}
 use Rattle.laws.specs.Kept.{Kept}
 use Rattle.laws.specs.History.{Accepted}
 use Rattle.laws.proofs.Heads.{same-row, then-same}
-use Rattle.laws.proofs.Ways.{climb, nearer, only-root, below-root, along-length}
+use Rattle.laws.proofs.Paths.{climb, nearer, only-root, below-root, along-length}
 use Rattle.laws.proofs.Choosing.{new-head-full, new-head-elsewhere}
 use Rattle.laws.proofs.Rising.{rises}
 use Rattle.laws.proofs.Turns.{fewer, turn}
 use Rattle.laws.proofs.Outset.{zeros-at}
-use Rattle.laws.proofs.OneEvent.{line-class, left, line-sender}
+use Rattle.laws.specs.Line.{line-class, left}
+use Rattle.laws.proofs.OneEvent.{line-sender}
 use Rattle.events.proofs.Few.{kept-few, few}
 
 -- the box has nothing in row j

@@ -17,7 +17,8 @@ use Rattle.laws.specs.Counts.{Below}
 use Rattle.laws.proofs.Tests.{cond-least}
 use Rattle.laws.proofs.Turns.{class-at, fewer, turn}
 use Rattle.laws.proofs.Outset.{zeros-at}
-use Rattle.laws.proofs.OneEvent.{line-class, mark-most, arrival-parent-since, departure-bytes}
+use Rattle.laws.specs.Line.{line-class}
+use Rattle.laws.proofs.OneEvent.{mark-most, arrival-parent-since, departure-bytes}
 use Rattle.laws.proofs.Sizes.{tags-below, heads-below, bytes-below, held-below, since-below, parent-since-below}
 use Rattle.hierarchy.specs.Sizes.{Small}
 use Rattle.counts.specs.Given.{At-most, Past}

@@ -9,7 +9,7 @@ use Rattle.rules.specs.Limits.{most-bytes}
 use Rattle.rules.specs.Classes.{Tree, parent, depth}
 use Rattle.rules.specs.Box.{Rows, Box, head-class}
 use Rattle.rules.specs.Steps.{on-path, along, leaves, goes-on, departure}
-use Rattle.laws.proofs.OneEvent.{left}
+use Rattle.laws.specs.Line.{left}
 use Rattle.hierarchy.specs.Sizes.{Small}
 use Rattle.counts.proofs.Paths.{set-at-most}
 

@@ -15,7 +15,7 @@ use Rattle.rules.specs.Box.{Packet, Box, queue-of, head}
 use Rattle.rules.specs.Steps.{arrival, departure}
 use Rattle.laws.specs.Sound.{Sound, Sender}
 use Rattle.laws.specs.Kept.{InLine, Kept}
-use Rattle.laws.proofs.OneEvent.{line-class, left}
+use Rattle.laws.specs.Line.{line-class, left}
 use Rattle.laws.proofs.Queues.{each-queue}
 use Rattle.hierarchy.specs.Next.{next-of}
 use Rattle.queues.specs.Words.{followed, shortened, length-of}

@@ -27,7 +27,8 @@ use Rattle.laws.proofs.Heads.{has-true}
 use Rattle.laws.proofs.Trees.{arrival-fits, finish-fits}
 use Rattle.laws.proofs.Turns.{fewer}
 use Rattle.laws.proofs.DeparturePath.{leaves-idle}
-use Rattle.laws.proofs.OneEvent.{line-class, left, line-sender, left-line}
+use Rattle.laws.specs.Line.{line-class, left}
+use Rattle.laws.proofs.OneEvent.{line-sender, left-line}
 use Rattle.laws.proofs.Keeping.{class-head}
 use Rattle.hierarchy.specs.Next.{next-of}
 use Rattle.counts.specs.Given.{Counts}

@@ -12,7 +12,7 @@ ghost use Rattle.choosing.specs.Arrays.{tree, rows-of};
 ghost use Rattle.hierarchy.specs.Next.{next-of};
 ghost use Rattle.counts.specs.Given.{Counts};
 ghost use Rattle.checks.specs.Lent.{events-of};
-ghost use Rattle.laws.proofs.OneEvent.{left};
+ghost use Rattle.laws.specs.Line.{left};
 ghost use Rattle.events.specs.State.{tree-at, Fit, Ready, Now};
 use rules::Event;
 

@@ -1,4 +1,4 @@
--- An arrival moves the rows on the way from its class up to the first that has a head, level by level, and nothing else.
+-- An arrival moves the rows on the path from its class up to the first that has a head, level by level, and nothing else.
 -- Assumes nothing.
 use Prim.Native.Nat.{ℕ, suc, _≤_, _<_, max}
 use mathlib.Core.Path.{_≡_, refl, sym, _∙_, ap, subst}
@@ -14,8 +14,8 @@ use Rattle.rules.specs.declared.Why.the-variants.{Arrived}
 use Rattle.laws.specs.Sound.{Sound, Kid, Inner, Sender}
 use Rattle.laws.specs.Moves.{Full, SameHead, Settled, SameKid, SameRow, Still, Headed, Arriving, joins, opens, ArrivalAt}
 use Rattle.laws.proofs.Heads.{has-true, has-false, same-row, then-same, still-rows}
-use Rattle.laws.proofs.Ways.{parent-is-inner, root-inner, parent-within, child-within}
-use Rattle.laws.proofs.Depths.{kid-deeper, way-higher, deeper-apart, upwards, off-apart, kid-off, sibling-off, sender-off, inner-below}
+use Rattle.laws.proofs.Paths.{parent-is-inner, root-inner, parent-within, child-within}
+use Rattle.laws.proofs.Depths.{kid-deeper, path-higher, deeper-apart, upwards, off-apart, kid-off, sibling-off, sender-off, inner-below}
 use Rattle.laws.proofs.Choosing.{new-head-full, new-head-elsewhere, new-head-here}
 use Rattle.laws.proofs.Rising.{Chosen, nobody, somebody, Risen, rises, root-tags, pick-before, next-start-same, taken-head, taken-headed, front-headed}
 use Rattle.laws.proofs.Settling.{Move, rests, takes, Own, own-same, settles}
@@ -73,7 +73,7 @@ module _ (tree : Tree) (sound : Sound tree) (a : Rows) (full : Full a) (settled 
           let f = new-head-here tree sound Arrived k (suc place) length k (sender .inside) a full in
           omega arith
 
-      -- every row that chose has a head, for its child on the way has one
+      -- every row that chose has a head, for its child on the path has one
       served : (r : ℕ) → r < tree .rows → within tree r k ≡ true → risen .top ≤ depth tree r → head now r ≢ 0
       served = upwards tree sound k (sender .inside) (λ r. risen .top ≤ depth tree r → head now r ≢ 0) (λ low. let e = own-head in omega arith) step
         where
@@ -116,14 +116,14 @@ module _ (tree : Tree) (sound : Sound tree) (a : Rows) (full : Full a) (settled 
                   subst (λ (s : ℕ). Headed tree now c s)
                   (next-start-same tree Arrived a front c (elsewhere c apart)
                   (elsewhere (parent tree c)
-                  (deeper-apart tree sound (parent tree c) k (rw (kid .under) (way-higher tree sound k p c (sender .inside) kid on)))))
+                  (deeper-apart tree sound (parent tree c) k (rw (kid .under) (path-higher tree sound k p c (sender .inside) kid on)))))
                   (taken-headed tree Arrived front now c j chosen (kid .positive))
 
       moves-to : (p c : ℕ) → Kid tree p c → within tree c k ≡ true → risen .top ≤ depth tree c → Arriving tree a now p c
       moves-to p c kid on low = go (decLe (risen .top) (depth tree p))
         where
           before : SameRow a front p
-          before = elsewhere p (deeper-apart tree sound p k (way-higher tree sound k p c (sender .inside) kid on))
+          before = elsewhere p (deeper-apart tree sound p k (path-higher tree sound k p c (sender .inside) kid on))
 
           on-p : within tree p k ≡ true
           on-p = parent-within tree sound p c k (sender .inside) kid on

@@ -33,7 +33,7 @@ sum-le (suc n) f g each =
     let last = each n (omega arith) in
     omega arith
 
--- one row falls by e, and no other grows
+-- one term is less by e, and no other is more
 sum-falls :
     (n : ℕ) (f g : ℕ → ℕ) (k e : ℕ) → k < n → ((j : ℕ) → j < n → j ≢ k → f j ≤ g j) → f k + e ≤ g k
     → sum n f + e ≤ sum n g

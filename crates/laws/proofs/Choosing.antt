@@ -21,7 +21,7 @@ use Rattle.laws.specs.Sound.{Sound, Kid, Inner}
 use Rattle.laws.specs.Moves.{Full, SameHead, SameKid, SameRow, Pick}
 use Rattle.laws.proofs.Tests.{both-ways}
 use Rattle.laws.proofs.Heads.{has-true, some-has}
-use Rattle.laws.proofs.Ways.{kid-child, child-kid, its-parent, kid-apart}
+use Rattle.laws.proofs.Paths.{kid-child, child-kid, its-parent, kid-apart}
 use Rattle.laws.proofs.Least.{Best, Found, found}
 use Rattle.laws.proofs.Writing.{Wrote, written, wrote-full, wrote-elsewhere, wrote-both}
 use Rattle.laws.proofs.Writing.{with-head-wrote, with-virtual-wrote, new-head-wrote}

@@ -18,9 +18,10 @@ use Rattle.laws.specs.Sound.{Sound, Sender, ArrivalFits}
 use Rattle.laws.specs.Moves.{SameHead}
 use Rattle.laws.specs.Kept.{HeadOf, Kept}
 use Rattle.laws.specs.History.{Accepted, arrivals-of, only-for}
+use Rattle.laws.specs.Line.{line-class}
 use Rattle.laws.proofs.Tests.{cond-self}
 use Rattle.laws.proofs.Heads.{has-true, has-false, some-has, none-has}
-use Rattle.laws.proofs.Ways.{root-within, self-within}
+use Rattle.laws.proofs.Paths.{root-within, self-within}
 use Rattle.laws.proofs.Depths.{sender-off}
 use Rattle.laws.proofs.ArrivalPath.{arrives-line-busy}
 use Rattle.laws.proofs.DeparturePath.{leaves-idle}
@@ -28,7 +29,7 @@ use Rattle.laws.proofs.Turns.{class-at, Arrives, fewer, turn}
 use Rattle.laws.proofs.Largest.{parts-largest, accepted-wider}
 use Rattle.laws.proofs.Queues.{each-queue}
 use Rattle.laws.proofs.Outset.{zeros-at, empty-queue}
-use Rattle.laws.proofs.OneEvent.{line-class, arrival-held, line-sender, departure-bytes}
+use Rattle.laws.proofs.OneEvent.{arrival-held, line-sender, departure-bytes}
 use Rattle.laws.proofs.Keeping.{class-head, idle-holds-none, busy-holds, departure-held, kept}
 use Rattle.laws.proofs.Orders.{All, all-append, packets-last, bytes-last}
 use Rattle.laws.proofs.Orders.{only-last, only-other, arrivals-finish, arrivals-own, arrivals-other}

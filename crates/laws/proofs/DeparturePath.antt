@@ -1,4 +1,4 @@
--- The line's finish moves the rows on the way from the class whose packet it was, up to the root, level by level, and nothing else.
+-- The line's finish moves the rows on the path from the class whose packet it was, up to the root, level by level, and nothing else.
 -- Assumes nothing.
 use Prim.Native.Nat.{ℕ, suc, _≤_, _<_}
 use mathlib.Core.Path.{_≡_, refl, sym, _∙_, ap, subst}
@@ -18,8 +18,8 @@ use Rattle.laws.specs.Sound.{Sound, Kid, Inner, Sender}
 use Rattle.laws.specs.Moves.{Full, SameHead, Settled, SameKid, SameRow, Still, Headed, Dropped, Pick, Departing, passes-on, empties, DepartureAt}
 use Rattle.laws.specs.Kept.{HeadOf}
 use Rattle.laws.proofs.Heads.{same-row, then-same, still-rows}
-use Rattle.laws.proofs.Ways.{its-parent, climb, parent-is-inner, root-within, self-within, parent-within, child-within, one-child, along-length, along-at}
-use Rattle.laws.proofs.Depths.{kid-deeper, way-higher, deeper-apart, upwards, off-apart, kid-off, sibling-off, sender-off, inner-below}
+use Rattle.laws.proofs.Paths.{its-parent, climb, parent-is-inner, root-within, self-within, parent-within, child-within, one-child, along-length, along-at}
+use Rattle.laws.proofs.Depths.{kid-deeper, path-higher, deeper-apart, upwards, off-apart, kid-off, sibling-off, sender-off, inner-below}
 use Rattle.laws.proofs.Choosing.{new-head-full, new-head-elsewhere, new-head-here}
 use Rattle.laws.proofs.Rising.{Chosen, nobody, somebody, Risen, rises, root-tags, pick-before, taken-headed, front-headed}
 use Rattle.laws.proofs.Settling.{Move, rests, takes, Own, own-same, settles}
@@ -195,7 +195,7 @@ module _ (tree : Tree) (sound : Sound tree) (a : Rows) (full : Full a) (settled 
       waiting p c kid on =
           let on-p = parent-within tree sound p c class (sender .inside) kid on in
           let e = leaves-on tree sound a full class (sender .inside) p (parent-is-inner tree sound p c kid .inside) on-p in
-          let f = elsewhere p (deeper-apart tree sound p class (way-higher tree sound class p c (sender .inside) kid on)) in
+          let f = elsewhere p (deeper-apart tree sound p class (path-higher tree sound class p c (sender .inside) kid on)) in
           omega arith
 
       -- so all of them choose
@@ -225,7 +225,7 @@ module _ (tree : Tree) (sound : Sound tree) (a : Rows) (full : Full a) (settled 
       own-row : Renewed tree class later left now
       own-row = renewed tree sound class (sender .inside) left left-full later next (cleared .none) (cleared .no-length) now (risen .here)
 
-      -- a row on the way has its next head, from its old finish on, or none
+      -- a row on the path has its next head, from its old finish on, or none
       moved : (p c : ℕ) → Kid tree p c → within tree c class ≡ true → Headed tree now c (finish a c) ⊎ Dropped a now c
       unfolding next-start
       moved p c kid on = go (ℕ-discrete c class)

@@ -1,4 +1,4 @@
--- How deep the rows are: proofs that go up a way or come up from the children, and which rows are off a way.
+-- How deep the rows are: proofs that go up a path or come up from the children, and which rows are off a path.
 -- Assumes nothing.
 use Prim.Native.Nat.{ℕ, zero, suc, _+_, _-_, _≤_, _<_}
 use mathlib.Core.Path.{_≡_, refl, sym, _∙_, ap, subst}
@@ -10,7 +10,7 @@ use Rattle.rules.specs.Limits.{most-depth}
 use Rattle.rules.specs.Classes.{Tree, parent, depth, sends}
 use Rattle.rules.specs.Promise.{within}
 use Rattle.laws.specs.Sound.{Sound, Kid, Inner, Sender}
-use Rattle.laws.proofs.Ways.{sends-sender, its-parent, below-root, only-root, further, nearer, no-deeper, self-within, parent-within, child-within, one-child, sender-alone}
+use Rattle.laws.proofs.Paths.{sends-sender, its-parent, below-root, only-root, further, nearer, no-deeper, self-within, parent-within, child-within, one-child, sender-alone}
 
 module _ (tree : Tree) (sound : Sound tree) where
   pub sender-or-inner : (r : ℕ) → r < tree .rows → Sender tree r ⊎ Inner tree r
@@ -30,10 +30,10 @@ module _ (tree : Tree) (sound : Sound tree) where
   pub lower-kid : (d r : ℕ) → r < tree .rows → depth tree r ≡ suc d → Kid tree (parent tree r) r
   lower-kid d r inside deep = its-parent tree sound r (below-root tree sound r d deep) inside
 
-  -- a row on the way from r is r, or less deep
-  pub way-depth : (r j : ℕ) → r < tree .rows → within tree j r ≡ true → (j ≡ r) ⊎ (depth tree j < depth tree r)
-  way-depth zero j inside on = inl (only-root tree sound j on)
-  way-depth (suc r) j inside on = ⊎-elim (λ here. inl (sym here)) (λ above. inr (higher above)) (nearer tree sound j (suc r) (omega arith) inside on)
+  -- a row on the path from r is r, or less deep
+  pub path-depth : (r j : ℕ) → r < tree .rows → within tree j r ≡ true → (j ≡ r) ⊎ (depth tree j < depth tree r)
+  path-depth zero j inside on = inl (only-root tree sound j on)
+  path-depth (suc r) j inside on = ⊎-elim (λ here. inl (sym here)) (λ above. inr (higher above)) (nearer tree sound j (suc r) (omega arith) inside on)
     where
       higher : within tree j (parent tree (suc r)) ≡ true → depth tree j < depth tree (suc r)
       higher above =
@@ -41,9 +41,9 @@ module _ (tree : Tree) (sound : Sound tree) where
           let high = no-deeper tree sound j (parent tree (suc r)) (sound .parent-row (suc r) (omega arith) inside) above in
           omega arith
 
-  -- a parent of a row on the way from r is less deep than r
-  pub way-higher : (r p c : ℕ) → r < tree .rows → Kid tree p c → within tree c r ≡ true → depth tree p < depth tree r
-  way-higher r p c inside kid on =
+  -- a parent of a row on the path from r is less deep than r
+  pub path-higher : (r p c : ℕ) → r < tree .rows → Kid tree p c → within tree c r ≡ true → depth tree p < depth tree r
+  path-higher r p c inside kid on =
       let deeper = kid-deeper p c kid in
       let high = no-deeper tree sound c r inside on in
       omega arith
@@ -51,14 +51,14 @@ module _ (tree : Tree) (sound : Sound tree) where
   pub deeper-apart : (j r : ℕ) → depth tree j < depth tree r → j ≢ r
   deeper-apart j r less e = let f = ap (depth tree) e in omega arith
 
-  -- ── up the way ──
+  -- ── up the path ──
 
-  -- what k has, and a parent on the way from k has where its child on the way has it, all rows on the way have
+  -- what k has, and a parent on the path from k has where its child on the path has it, all rows on the path have
   module _ (k : ℕ) (inside-k : k < tree .rows) (P : ℕ → Type 0) (first : P k)
       (step : (p c : ℕ) → Kid tree p c → within tree c k ≡ true → P c → P p) where
     upwards-from : (n r : ℕ) → r < tree .rows → within tree r k ≡ true → depth tree r + n ≡ depth tree k → P r
     upwards-from zero r inside on far =
-        ⊎-elim (λ e. subst P (sym e) first) (λ less. absurd (omega arith)) (way-depth k r inside-k on)
+        ⊎-elim (λ e. subst P (sym e) first) (λ less. absurd (omega arith)) (path-depth k r inside-k on)
     upwards-from (suc n) r inside on far =
         let below = child-within tree sound r k inside-k on (deeper-apart r k (omega arith)) in
         let deeper = kid-deeper r (below .0) (below .1) in
@@ -82,7 +82,7 @@ module _ (tree : Tree) (sound : Sound tree) where
           next r inside (λ j kid. let deeper = kid-deeper r j kid in let shallow = sound .shallow j (kid .inside) in absurd (omega arith))
       go (suc d) r inside reach = next r inside (λ j kid. go d j (kid .inside) (let deeper = kid-deeper r j kid in omega arith))
 
-  -- ── rows off a way ──
+  -- ── rows off a path ──
 
   pub off-at-parent : (p r j : ℕ) → Kid tree p r → within tree j r ≡ false → within tree j p ≡ false
   off-at-parent p r j kid off =
@@ -102,7 +102,7 @@ module _ (tree : Tree) (sound : Sound tree) where
     pub sender-off : (j : ℕ) → Sender tree j → j ≢ k → within tree j k ≡ false
     sender-off j sender apart = refuted (λ on. apart (sym (sender-alone tree sound j k sender inside on)))
 
-  -- an inner row on the way from a sending class has a child on it
+  -- an inner row on the path from a sending class has a child on it
   pub inner-below :
       (k p : ℕ) → Sender tree k → Inner tree p → within tree p k ≡ true → (c : ℕ) × Kid tree p c × (within tree c k ≡ true)
   inner-below k p sender inner on =

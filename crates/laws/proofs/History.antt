@@ -18,7 +18,7 @@ use Rattle.rules.specs.Steps.{arrival, departure, step, after}
 use Rattle.rules.specs.Promise.{for-part, finish-count, arrived, packets-for, bytes-for, finished, holds}
 use Rattle.laws.specs.Sound.{Sender}
 use Rattle.laws.specs.History.{Accepted, arrivals-of, only-for}
-use Rattle.laws.proofs.Ways.{self-within}
+use Rattle.laws.proofs.Paths.{self-within}
 use Rattle.laws.proofs.Turns.{class-at, fewer}
 use Rattle.laws.proofs.Orders.{All, all-middle, twice, only-twice, arrivals-ascend, Ascending}
 use Rattle.laws.proofs.Counting.{on-line, on-line-length, ForSender, counted, order-sent, order-first, arrived-all, idle-line-holds-none, busy-line-holds}
@@ -54,7 +54,7 @@ module _ (tree : Tree) (events : Events) where
       rw (run .1 .order-parts, length-append, run .1 .done-length, on-line-length)
 
   -- the same finished packets at any later moment
-  pub finished-same : (n m : ℕ) → n ≤ m → Accepted tree events m → finished events (after tree events m .order) n ≡ finished events (after tree events n .order) n
+  finished-same : (n m : ℕ) → n ≤ m → Accepted tree events m → finished events (after tree events m .order) n ≡ finished events (after tree events n .order) n
   unfolding Grown finished
   finished-same n m earlier ok =
       let more = grown n m earlier in

@@ -12,7 +12,7 @@ use Rattle.rules.specs.Promise.{within}
 use Rattle.laws.specs.Sound.{Sound, Kid, Inner, Sender}
 use Rattle.laws.specs.Level.{sum}
 use Rattle.laws.specs.Kept.{held-below}
-use Rattle.laws.proofs.Ways.{kid-child, child-kid, self-within}
+use Rattle.laws.proofs.Paths.{kid-child, child-kid, self-within}
 use Rattle.laws.proofs.Depths.{kid-off, sibling-off, sender-off, inner-below}
 use Rattle.laws.proofs.Balance.{sum-same}
 
@@ -62,7 +62,7 @@ abbrev pub OneMore : Tree → ℕ → Box → Box → Type 0
 OneMore tree k less more = (r : ℕ) → r < tree .rows → held-by more r ≡ cond (within tree r k) (suc (held-by less r)) (held-by less r)
 
 module _ (tree : Tree) (sound : Sound tree) (k : ℕ) (sender : Sender tree k) (less more : Box) (one-more : OneMore tree k less more) where
-  -- the rows off the way to k hold as many
+  -- the rows off the path to k hold as many
   more-off : (r : ℕ) → r < tree .rows → within tree r k ≡ false → held-by more r ≡ held-by less r
   more-off r inside off = one-more r inside ∙ ap (λ (b : Bool). cond b (suc (held-by less r)) (held-by less r)) off
 
@@ -75,10 +75,10 @@ module _ (tree : Tree) (sound : Sound tree) (k : ℕ) (sender : Sender tree k) (
   pub more-other : (j : ℕ) → Sender tree j → j ≢ k → held-by more j ≡ held-by less j
   more-other j other apart = more-off j (other .inside) (sender-off tree sound k (sender .inside) j other apart)
 
-  off-way :
+  off-path :
       (p j : ℕ) → j < tree .rows → (Kid tree p j → within tree j k ≡ false)
       → cond (child tree p j) (held-by more j) 0 ≡ cond (child tree p j) (held-by less j) 0
-  off-way p j inside off = go (child tree p j) refl
+  off-path p j inside off = go (child tree p j) refl
     where
       go : (b : Bool) → child tree p j ≡ b → cond b (held-by more j) 0 ≡ cond b (held-by less j) 0
       go true is = more-off j inside (off (child-kid tree p j inside is))
@@ -95,18 +95,18 @@ module _ (tree : Tree) (sound : Sound tree) (k : ℕ) (sender : Sender tree k) (
       through : (c : ℕ) → Kid tree p c → within tree c k ≡ true → sum (tree .rows) (all more) ≡ suc (sum (tree .rows) (all less))
       through c kid on =
           sum-more (tree .rows) (all more) (all less) c (kid .inside)
-          (λ j inside apart. off-way p j inside (λ other. sibling-off tree sound k (sender .inside) p c j kid on other apart))
+          (λ j inside apart. off-path p j inside (λ other. sibling-off tree sound k (sender .inside) p c j kid on other apart))
           (rw (kid-child tree p c kid) (more-on c (kid .inside) on))
 
       go :
           (b : Bool) → within tree p k ≡ b
           → sum (tree .rows) (all more) ≡ cond b (suc (sum (tree .rows) (all less))) (sum (tree .rows) (all less))
       go true on =
-          let (c, kid, way) = inner-below tree sound k p sender inner on in
-          through c kid way
+          let (c, kid, on-c) = inner-below tree sound k p sender inner on in
+          through c kid on-c
       go false off =
           sum-same (tree .rows) (all more) (all less)
-          (λ j inside. off-way p j inside (λ kid. kid-off tree sound k (sender .inside) p j kid off))
+          (λ j inside. off-path p j inside (λ kid. kid-off tree sound k (sender .inside) p j kid off))
 
   pub more-below : (p : ℕ) → Inner tree p → held-by less p ≡ held-below tree less p → held-by more p ≡ held-below tree more p
   more-below p inner before =

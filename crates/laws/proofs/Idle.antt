@@ -1,12 +1,14 @@
 -- The line is never idle while a packet waits; so a finish of nothing is found by counting, without the box.
 -- Assumes nothing.
 use Prim.Native.Nat.{ℕ, _≤_, _<_}
-use mathlib.Core.Path.{_≡_, refl, sym}
+use mathlib.Core.Path.{_≡_, refl, sym, _∙_, ap}
 use mathlib.Core.Logic.{_≢_}
 use mathlib.Core.Bool.{Bool, true, false, not}
+use native.Mathlib.Decide.{ℕ-discrete}
+use native.Mathlib.Nat.{pos-of-ne-zero}
 use native.Mathlib.Omega.{arith}
-use lib.Dec.{leb}
-use borrow.Author.Tests.{le-leb, lt-leb}
+use lib.Dec.{leb, eqb}
+use borrow.Author.Tests.{le-leb, lt-leb, eq-eqb, ne-eqb}
 use Rattle.rules.specs.Classes.{Tree, parent}
 use Rattle.rules.specs.Events.{Events}
 use Rattle.rules.specs.Box.{Box, head, has-head, held-by}
@@ -16,9 +18,10 @@ use Rattle.rules.specs.Promise.{finish-count, arrived}
 use Rattle.laws.specs.Sound.{Sound}
 use Rattle.laws.specs.Kept.{Kept}
 use Rattle.laws.specs.History.{Accepted}
-use Rattle.laws.proofs.Ways.{climb, its-parent}
+use Rattle.laws.proofs.Heads.{some-has, none-has}
+use Rattle.laws.proofs.Paths.{climb, its-parent}
 use Rattle.laws.proofs.Largest.{accepted-wider}
-use Rattle.laws.proofs.Keeping.{holds-head, kept}
+use Rattle.laws.proofs.Keeping.{holds-head, holds-none, kept}
 use Rattle.laws.proofs.History.{idle-counted, busy-counted}
 
 -- a row that holds a packet has ancestors with a head, the root among them
@@ -37,6 +40,20 @@ module _ (tree : Tree) (events : Events) where
       (n r : ℕ) → Accepted tree events n → r < tree .rows → 0 < held-by (after tree events n) r → head (after tree events n .rows) 0 ≢ 0
   never-idle n r ok inside =
       line-busy tree (ok .sound) _ (accepted-wider tree events n ok) n (after tree events n) (kept tree events n n (omega arith) ok) r inside
+
+  -- so one is on the line exactly where the root holds one
+  pub busy-is-held : (n : ℕ) → Accepted tree events n → has-head (after tree events n .rows) 0 ≡ not (eqb (held-by (after tree events n) 0) 0)
+  busy-is-held n ok = go (ℕ-discrete (held-by (after tree events n) 0) 0)
+    where
+      go : Dec (held-by (after tree events n) 0 ≡ 0) → has-head (after tree events n .rows) 0 ≡ not (eqb (held-by (after tree events n) 0) 0)
+      go (yes empty) =
+          let none =
+          holds-none tree (ok .sound) _ (accepted-wider tree events n ok) n (after tree events n) (kept tree events n n (omega arith) ok) 0
+          (ok .sound .some-rows) empty in
+          none-has (after tree events n .rows) 0 none ∙ sym (ap not (eq-eqb (held-by (after tree events n) 0) 0 empty))
+      go (no some) =
+          let busy = never-idle n 0 ok (ok .sound .some-rows) (pos-of-ne-zero some) in
+          some-has (after tree events n .rows) 0 busy ∙ sym (ap not (ne-eqb (held-by (after tree events n) 0) 0 some))
 
   -- whether the line is idle after n accepted events is a matter of counting arrivals and finishes
   pub idle-is-counted : (n : ℕ) → Accepted tree events n → idle (after tree events n) ≡ leb (arrived tree events 0 n) (finish-count events n)

@@ -17,17 +17,18 @@ use Rattle.rules.specs.Promise.{within}
 use Rattle.laws.specs.Sound.{Sound, Kid, Inner, Sender}
 use Rattle.laws.specs.Moves.{Still, ArrivalAt}
 use Rattle.laws.specs.Kept.{Kept, Ahead}
-use Rattle.laws.specs.History.{Accepted, largest-for}
-use Rattle.laws.proofs.Ways.{parent-is-inner, parent-within}
+use Rattle.laws.specs.History.{Accepted, largest-for, Keeps}
+use Rattle.laws.specs.Line.{line-class}
+use Rattle.laws.proofs.Paths.{parent-is-inner, parent-within}
 use Rattle.laws.proofs.Trees.{share-whole, charge-exact}
 use Rattle.laws.proofs.Modes.{not-root}
 use Rattle.laws.proofs.Levels.{arrival-ready, departure-ready}
 use Rattle.laws.proofs.Turns.{class-at, turn}
 use Rattle.laws.proofs.Largest.{parts-largest, accepted-wider}
-use Rattle.laws.proofs.OneEvent.{line-class, even, arrival-at, arrival-bytes, line-sender, line-length, departure-on, departure-off, bytes-on, bytes-off}
+use Rattle.laws.proofs.OneEvent.{even, arrival-at, arrival-bytes, line-sender, line-length, departure-on, departure-off, bytes-on, bytes-off}
 use Rattle.laws.proofs.Keeping.{holds-none, kept}
 use Rattle.laws.proofs.Pace.{came-top, left-top, finishes-late}
-use Rattle.laws.proofs.Stretch.{Keeps, head-at, stretch}
+use Rattle.laws.proofs.Stretch.{head-at, stretch}
 
 -- p chose: its virtual time passes over the packet that it took, and its child k then starts not too far ahead of where that time was
 record Chose (tree : Tree) (big : ℕ → ℕ) (a b : Rows) (p k : ℕ) : Type 0 where
@@ -187,7 +188,7 @@ module _ (tree : Tree) (events : Events) (last : ℕ) (ok : Accepted tree events
       let has-first = head-at tree events last ok (suc i) k (omega arith) (kid .inside) (keeps (suc i) (omega arith) before) in
       let has-second = head-at tree events last ok j k (omega arith) (kid .inside) (keeps j before (omega arith)) in
       let first = chose p k i kid (omega arith) has-first due in
-      let way = stretch tree events last ok p k (suc i) j kid before (omega arith) keeps in
+      let pace = stretch tree events last ok p k (suc i) j kid before (omega arith) keeps in
       let second = ended p k j kid inside finished in
       let near = close tree sound big wider j (box j) (well j (omega arith)) p k kid has-second in
       let risen : v₀ + ticks * p₁ ≤ v₁ + ticks * p₀ = omega arith in

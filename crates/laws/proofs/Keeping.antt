@@ -1,4 +1,4 @@
--- A well-kept box stays well kept over every accepted event; a row has a head exactly where it holds a packet.
+-- A well-kept box stays well kept over every accepted event; to hold a packet and to have a head is the same for every row.
 -- Assumes nothing.
 use Prim.Native.Nat.{ℕ, zero, suc, pred, _≤_, _<_}
 use mathlib.Core.Path.{_≡_, refl, sym, ap, subst, _∙_}
@@ -20,9 +20,10 @@ use Rattle.laws.specs.Sound.{Sound, Kid, Inner, Sender, ArrivalFits}
 use Rattle.laws.specs.Moves.{SameHead, Settled}
 use Rattle.laws.specs.Kept.{Kept, InLine, HeadOf, held-below, Covered}
 use Rattle.laws.specs.History.{Accepted, largest-for}
+use Rattle.laws.specs.Line.{line-class, left}
 use Rattle.laws.proofs.Tests.{cond-least}
 use Rattle.laws.proofs.Heads.{has-true}
-use Rattle.laws.proofs.Ways.{kid-child, child-kid, self-within, sender-alone, along-length, along-at}
+use Rattle.laws.proofs.Paths.{kid-child, child-kid, self-within, sender-alone, along-length, along-at}
 use Rattle.laws.proofs.Depths.{sender-or-inner, from-children, upwards}
 use Rattle.laws.proofs.Trees.{arrival-fits, finish-fits}
 use Rattle.laws.proofs.Levels.{Even, still-even, arrival-even, departure-even}
@@ -33,7 +34,7 @@ use Rattle.laws.proofs.Largest.{largest-covers, accepted-wider}
 pub use Rattle.laws.proofs.Outset.{fresh-kept}
 use Rattle.laws.proofs.Queues.{in-line-wider, in-line-joined, length-tail, head-in-line, idle-empty, busy-some, OneQueue, lines-after, heads-after, counts-after}
 use Rattle.laws.proofs.Holding.{sum-none, sum-term, OneMore, more-own, more-other, more-below, less-below}
-use Rattle.laws.proofs.OneEvent.{line-class, left, even, arrival-at, arrival-held, line-sender, left-line, left-next, departure-on, departure-off}
+use Rattle.laws.proofs.OneEvent.{even, arrival-at, arrival-held, line-sender, left-line, left-next, departure-on, departure-off}
 
 -- ── heads ──
 
@@ -234,7 +235,7 @@ module _ (tree : Tree) (sound : Sound tree) (big : ℕ → ℕ) (wider : (j : �
       next : NextFits (left box)
       next = left-next tree sound big now box kept busy
 
-      -- every row on the line's way holds a packet, so that one less is exact
+      -- every row on the line's path holds a packet, so that one less is exact
       pub departure-held : OneMore tree (line-class box) (departure tree box) box
       unfolding departure
       departure-held r inside =

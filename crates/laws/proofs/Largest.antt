@@ -11,7 +11,7 @@ use Rattle.rules.specs.Promise.{within, for-part, largest}
 use Rattle.laws.specs.Sound.{ArrivalFits}
 use Rattle.laws.specs.History.{Accepted, largest-for}
 use Rattle.laws.proofs.Tests.{cond-most}
-use Rattle.laws.proofs.Ways.{its-parent, parent-within}
+use Rattle.laws.proofs.Paths.{its-parent, parent-within}
 use Rattle.laws.proofs.Turns.{class-at, fewer, turn}
 
 -- the parts' largest packets in the first n events, by row

@@ -18,7 +18,7 @@ use Rattle.laws.specs.Moves.{Arriving, joins, opens, Departing, renews, 
 use Rattle.laws.specs.Level.{Mode, idle, waits, taken, Due, Behind}
 use Rattle.laws.specs.Kept.{weight, spare, mode, Taken, none, one, Ahead, Balanced}
 use Rattle.laws.proofs.Heads.{same-row}
-use Rattle.laws.proofs.Ways.{one-child}
+use Rattle.laws.proofs.Paths.{one-child}
 use Rattle.laws.proofs.Trees.{share-whole, charge-exact, charge-covers}
 use Rattle.laws.proofs.Balance.{Apart, zero-behind, same-behind, wake-behind, renew-behind, drop-behind, pick-behind, due-behind}
 use Rattle.laws.proofs.Modes.{Waiting, shares-whole, weight-kid, not-root, mode-taken, mode-waits, mode-idle, mode-says, mode-same}

@@ -3,15 +3,15 @@
 -- tests and heads
 pub mod Tests
 pub mod Heads
--- trees and ways
-pub mod Ways
+-- trees and paths
+pub mod Paths
 pub mod Depths
 pub mod Trees
 -- one level
 pub mod Balance
 pub mod Modes
 pub mod Levels
--- choosing, at a row and up a way
+-- choosing, at a row and up a path
 pub mod Least
 pub mod Writing
 pub mod Choosing

@@ -15,7 +15,7 @@ use Rattle.laws.specs.Moves.{SameKid}
 use Rattle.laws.specs.Level.{Mode, idle, waits, taken, sum}
 use Rattle.laws.specs.Kept.{weight, spare, mode}
 use Rattle.laws.proofs.Heads.{has-true, some-has, none-has}
-use Rattle.laws.proofs.Ways.{kid-child, child-kid}
+use Rattle.laws.proofs.Paths.{kid-child, child-kid}
 
 -- ── shares ──
 

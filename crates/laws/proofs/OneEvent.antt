@@ -4,36 +4,29 @@ use Prim.Native.Nat.{ℕ, suc, _+_, _≤_, _<_}
 use mathlib.Core.Path.{_≡_, refl}
 use mathlib.Core.Logic.{_≢_, _⊎_}
 use mathlib.Core.Bool.{Bool, true, false, cond}
-use mathlib.Core.List.{List, tail}
 use native.Mathlib.Omega.{arith}
 use lib.Dec.{eqb}
 use lib.ListN.{getD}
 use borrow.Author.Tests.{eq-eqb, ne-eqb}
 use Rattle.rules.specs.Classes.{Tree, parent}
-use Rattle.rules.specs.Box.{Packet, Box, head, head-length, head-class, bytes-of, held-by, queue-of}
+use Rattle.rules.specs.Box.{Box, head, head-length, bytes-of, held-by, queue-of}
 use Rattle.rules.specs.Steps.{arrival, departure}
 use Rattle.rules.specs.Promise.{within}
 use Rattle.laws.specs.Sound.{Sound, Inner, Sender}
 use Rattle.laws.specs.Moves.{Still, ArrivalAt, DepartureAt}
 use Rattle.laws.specs.Kept.{InLine, Kept}
+use Rattle.laws.specs.Line.{line-class, left}
 use Rattle.laws.proofs.Tests.{cond-most}
-use Rattle.laws.proofs.Ways.{along-at}
+use Rattle.laws.proofs.Paths.{along-at}
 use Rattle.laws.proofs.Levels.{Even}
 use Rattle.laws.proofs.ArrivalPath.{arrives-at}
 use Rattle.laws.proofs.DeparturePath.{NextFits, path-heads, departs-on, departs-off}
 use Rattle.laws.proofs.Queues.{in-line-tail, in-line-next}
 use Rattle.laws.proofs.Holding.{OneMore}
 
--- the class of the packet on the line, and what that class holds behind it
-abbrev pub line-class : Box → ℕ
-line-class box = head-class (box .rows) 0
-
-abbrev pub left : Box → List Packet
-left box = tail (queue-of box (line-class box))
-
 -- ── the mark of a backlog's beginning ──
 
--- on the way of a packet that arrives it is set where nothing was held
+-- on the path of a packet that arrives it is set where nothing was held
 abbrev marked : Bool → ℕ → ℕ → ℕ → ℕ
 marked on held now mark = cond on (cond (eqb held 0) now mark) mark
 
@@ -102,7 +95,7 @@ module _ (tree : Tree) (sound : Sound tree) (big : ℕ → ℕ) (now : ℕ) (box
     pub left-next : NextFits (left box)
     left-next = in-line-next now (big (line-class box)) 0 (left box) left-line
 
-    -- the levels on the line's way, and the others
+    -- the levels on the line's path, and the others
     pub departure-on :
         (p : ℕ) → Inner tree p → within tree p (line-class box) ≡ true
         → (c : ℕ) × DepartureAt tree (box .rows) (departure tree box .rows) (line-class box) p c
@@ -113,7 +106,7 @@ module _ (tree : Tree) (sound : Sound tree) (big : ℕ → ℕ) (now : ℕ) (box
     unfolding departure
     departure-off = departs-off tree sound (box .rows) (kept .rows-full) (kept .settled) busy (left box) left-next
 
-    -- a finish adds the packet's bytes to each row on its way, and to no other
+    -- a finish adds the packet's bytes to each row on its path, and to no other
     pub departure-bytes :
         (r : ℕ) → r < tree .rows
         → bytes-of (departure tree box) r ≡ cond (within tree r (line-class box)) (bytes-of box r + head-length (box .rows) 0) (bytes-of box r)
@@ -121,7 +114,7 @@ module _ (tree : Tree) (sound : Sound tree) (big : ℕ → ℕ) (now : ℕ) (box
     departure-bytes r inside =
         along-at tree sound (λ j n. n + head-length (box .rows) 0) (line-class box) r (box .bytes) (line-sender .inside) inside (kept .bytes-full)
 
-    -- it is the head of each row on its way
+    -- it is the head of each row on its path
     pub line-length : (r : ℕ) → r < tree .rows → within tree r (line-class box) ≡ true → head-length (box .rows) r ≡ head-length (box .rows) 0
     line-length r inside on = path-heads tree sound (box .rows) (kept .rows-full) (kept .settled) busy r inside on .length-same
 

@@ -17,7 +17,7 @@ use Rattle.laws.proofs.Levels.{zero-even}
 use Rattle.laws.proofs.Holding.{sum-none}
 
 -- every entry of a list of one thing, with that for what is missing, is that thing
-replicate-at : {A : Type 0} (n i : ℕ) (x : A) → getD (replicate n x) i x ≡ x
+pub replicate-at : {A : Type 0} (n i : ℕ) (x : A) → getD (replicate n x) i x ≡ x
 replicate-at zero i x = refl
 replicate-at (suc n) zero x = refl
 replicate-at (suc n) (suc i) x = replicate-at n i x

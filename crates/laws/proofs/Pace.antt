@@ -18,11 +18,12 @@ use Rattle.laws.specs.Moves.{Settled, Still, Pick, ArrivalAt}
 use Rattle.laws.specs.Moves.{Arriving, joins, opens, Departing, renews, passes-on, empties}
 use Rattle.laws.specs.Kept.{Kept, Taken, none as nobody, one as somebody, Balanced, Ahead}
 use Rattle.laws.specs.Counts.{OwnPace, WholePace, Paced}
+use Rattle.laws.specs.Line.{line-class}
 use Rattle.laws.proofs.Tests.{cond-least}
-use Rattle.laws.proofs.Ways.{its-parent, parent-is-inner, parent-within, one-child}
+use Rattle.laws.proofs.Paths.{its-parent, parent-is-inner, parent-within, one-child}
 use Rattle.laws.proofs.Trees.{charge-exact, share-whole}
 use Rattle.laws.proofs.Levels.{not-behind}
-use Rattle.laws.proofs.OneEvent.{line-class, arrival-at, arrival-bytes, line-sender, departure-on, departure-off, departure-bytes, bytes-on, bytes-off}
+use Rattle.laws.proofs.OneEvent.{arrival-at, arrival-bytes, line-sender, departure-on, departure-off, departure-bytes, bytes-on, bytes-off}
 use Rattle.laws.proofs.Keeping.{holds-head, departure-kept}
 
 -- the line in numbers: a share w, a virtual time v, the bytes finished and taken x, a start s, a charge e, bytes b, each at the first and
@@ -105,7 +106,7 @@ module _ (tree : Tree) (sound : Sound tree) (big : ℕ → ℕ) (wider : (j : �
       class : Sender tree (line-class box)
       class = line-sender tree sound big now box kept busy
 
-      -- a child on the way that has a next packet starts it at its finish; one that is not on the way keeps its start
+      -- a child on the path that has a next packet starts it at its finish; one that is not on the path keeps its start
       start-on :
           (p j : ℕ) → Kid tree p j → within tree j (line-class box) ≡ true → head next j ≢ 0
           → start next j ≡ finish (box .rows) j

@@ -7,7 +7,6 @@ use native.Mathlib.Decide.{ℕ-discrete}
 use native.Mathlib.Nat.{mul-add, mul-le-mul-left, mul-le-mul-right, add-sub-of-le, pos-of-ne-zero, le-refl}
 use native.Mathlib.Omega.{arith}
 use lib.Dec.{ltb}
-use lib.ListN.{getD}
 use borrow.Author.Tests.{ltb-false, eq-eqb, ne-eqb}
 use lib.IntN.{pos, _-ℤ_, pos-ne-negsuc}
 use Rattle.rules.specs.Limits.{whole}
@@ -16,10 +15,10 @@ use Rattle.rules.specs.Events.{Events}
 use Rattle.rules.specs.Box.{fresh, bytes-of, held-by}
 use Rattle.rules.specs.Steps.{after}
 use Rattle.rules.specs.Outcome.{lag}
-use Rattle.rules.specs.Promise.{bytes-for, finished-in, Backlogged, Ratio, step-up, climbed, number, largest}
-use Rattle.laws.specs.Sound.{Kid, Sender}
-use Rattle.laws.specs.History.{Accepted, largest-for}
-use Rattle.laws.proofs.Ways.{its-parent, at-root, below-root, parent-is-inner}
+use Rattle.rules.specs.Promise.{bytes-for, finished-in, Backlogged, Ratio, step-up, climbed, number, largest, Promised}
+use Rattle.laws.specs.Sound.{Kid}
+use Rattle.laws.specs.History.{Accepted, largest-for, Keeps, Since}
+use Rattle.laws.proofs.Paths.{its-parent, at-root, below-root, parent-is-inner}
 use Rattle.laws.proofs.Trees.{share-whole}
 use Rattle.laws.proofs.Largest.{part-largest, accepted-wider}
 use Rattle.laws.proofs.Outset.{zeros-at}
@@ -27,7 +26,6 @@ use Rattle.laws.proofs.Keeping.{busy-holds, kept}
 use Rattle.laws.proofs.History.{holds-held}
 use Rattle.laws.proofs.Pace.{line}
 use Rattle.laws.proofs.Stretch.{head-at, stretch, marks-stay, wakes, bytes-in}
-pub use Rattle.laws.proofs.Stretch.{Keeps}
 
 -- ── in numbers ──
 
@@ -71,15 +69,9 @@ lag-less x (suc y) lagging is = go (ltb x (suc y)) refl
 
 -- ── in a run ──
 
--- a moment m from which on row r holds a packet, with the counts from which its lag at n is counted
-abbrev Since : Tree → Events → ℕ → ℕ → Type 0
-Since tree events r n =
-    (m : ℕ) × (m ≤ n) × Keeps tree events r m n × (getD (after tree events n .since) r 0 ≡ bytes-of (after tree events m) r)
-    × (getD (after tree events n .parent-since) r 0 ≡ bytes-of (after tree events m) (parent tree r))
-
 module _ (tree : Tree) (events : Events) (last : ℕ) (ok : Accepted tree events last) where
   -- a row's ancestors hold a packet where it does
-  pub keeps-up : (j m n : ℕ) → 0 < j → j < tree .rows → n ≤ last → Keeps tree events j m n → Keeps tree events (parent tree j) m n
+  keeps-up : (j m n : ℕ) → 0 < j → j < tree .rows → n ≤ last → Keeps tree events j m n → Keeps tree events (parent tree j) m n
   keeps-up j m n positive inside earlier keeps i from to =
       let well = kept tree events i last (omega arith) ok in
       let kid = its-parent tree (ok .sound) j positive inside in
@@ -163,15 +155,13 @@ module _ (tree : Tree) (events : Events) (last : ℕ) (ok : Accepted tree events
               pick (yes first) = rw first (pos-of-ne-zero some)
               pick (no other) = later i (omega arith) to
 
-  -- the promise: in any stretch after each event of which class k holds a packet, what the whole line finished is at most the number
+  -- the promise to any row, the root too, of which it says nothing new: for a stretch after each event of which the row holds a packet
   pub promised :
-      (k a b : ℕ) → Sender tree k → a ≤ b → b ≤ last → Backlogged tree events (after tree events last .order) k a b
-      → bytes-for tree events 0 (finished-in events (after tree events last .order) a b)
-      * number tree (largest events last) k (bytes-for tree events k (finished-in events (after tree events last .order) a b)) .denominator
-      ≤ number tree (largest events last) k (bytes-for tree events k (finished-in events (after tree events last .order) a b)) .numerator
+      (k a b : ℕ) → k < tree .rows → a ≤ b → b ≤ last → Backlogged tree events (after tree events last .order) k a b
+      → Promised tree events (after tree events last .order) (largest events last) k a b
   unfolding Backlogged number
-  promised k a b sender order earlier backlogged =
-      go (ℕ-discrete a b) (bytes-in tree events last ok a b k order earlier (sender .inside)) (bytes-in tree events last ok a b 0 order earlier (ok .sound .some-rows))
+  promised k a b inside order earlier backlogged =
+      go (ℕ-discrete a b) (bytes-in tree events last ok a b k order earlier inside) (bytes-in tree events last ok a b 0 order earlier (ok .sound .some-rows))
     where
       own : ℕ
       own = bytes-for tree events k (finished-in events (after tree events last .order) a b)
@@ -192,13 +182,13 @@ module _ (tree : Tree) (events : Events) (last : ℕ) (ok : Accepted tree events
           rw none (omega arith)
       go (no other) own-is all-is =
           let from =
-          begins k a b (sender .inside) (omega arith) earlier
-          (λ i low high. rw (holds-held tree events (suc i) last k (omega arith) ok (sender .inside)) at (backlogged i low high)) in
+          begins k a b inside (omega arith) earlier
+          (λ i low high. rw (holds-held tree events (suc i) last k (omega arith) ok inside) at (backlogged i low high)) in
           let own-from = from .3 k in
           let all-from = from .3 0 in
           let is : bytes-of (after tree events b) 0 - bytes-of (after tree events (from .0)) 0 ≡ all = omega arith in
           subst (λ (x : ℕ). x * bound .denominator ≤ bound .numerator) is
-          (climb (depth tree k) k (from .0) b (record { numerator = own; denominator = 1 }) (sender .inside) refl (from .1) earlier (from .2) (omega arith))
+          (climb (depth tree k) k (from .0) b (record { numerator = own; denominator = 1 }) inside refl (from .1) earlier (from .2) (omega arith))
 
   -- ── lags ──
 
@@ -227,10 +217,7 @@ module _ (tree : Tree) (events : Events) (last : ℕ) (ok : Accepted tree events
           pick (no other) = keeps i low (omega arith)
 
   -- a row that holds packets has held some since the moment from which its lag counts
-  pub backlog :
-      (r n : ℕ) → r < tree .rows → n ≤ last → 0 < held-by (after tree events n) r
-      → (m : ℕ) × (m ≤ n) × Keeps tree events r m n × (getD (after tree events n .since) r 0 ≡ bytes-of (after tree events m) r)
-      × (getD (after tree events n .parent-since) r 0 ≡ bytes-of (after tree events m) (parent tree r))
+  pub backlog : (r n : ℕ) → r < tree .rows → n ≤ last → 0 < held-by (after tree events n) r → Since tree events r n
   unfolding after fresh
   backlog r zero inside earlier holds = let none = zeros-at r in absurd (omega arith)
   backlog r (suc n) inside earlier holds =

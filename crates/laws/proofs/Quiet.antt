@@ -15,7 +15,7 @@ use Rattle.rules.specs.Steps.{after}
 use Rattle.rules.specs.Outcome.{row-report}
 use Rattle.laws.specs.Kept.{Kept}
 use Rattle.laws.specs.History.{Accepted}
-use Rattle.laws.proofs.Ways.{sends-sender}
+use Rattle.laws.proofs.Paths.{sends-sender}
 use Rattle.laws.proofs.Largest.{parts-largest}
 use Rattle.laws.proofs.Keeping.{kept}
 
@@ -29,14 +29,14 @@ module _ (tree : Tree) (events : Events) (n : ℕ) (ok : Accepted tree events n)
   keeps = kept tree events n n (omega arith) ok
 
   -- the root's tags
-  pub start-shown : (r : ℕ) → cond (eqb r 0) 0 (start (after tree events n .rows) r) ≡ start (after tree events n .rows) r
+  start-shown : (r : ℕ) → cond (eqb r 0) 0 (start (after tree events n .rows) r) ≡ start (after tree events n .rows) r
   start-shown r = left-out (eqb r 0) _ (λ root. ap (start (after tree events n .rows)) (eqb-true r 0 root) ∙ keeps .root-start)
 
-  pub finish-shown : (r : ℕ) → cond (eqb r 0) 0 (finish (after tree events n .rows) r) ≡ finish (after tree events n .rows) r
+  finish-shown : (r : ℕ) → cond (eqb r 0) 0 (finish (after tree events n .rows) r) ≡ finish (after tree events n .rows) r
   finish-shown r = left-out (eqb r 0) _ (λ root. ap (finish (after tree events n .rows)) (eqb-true r 0 root) ∙ keeps .root-finish)
 
   -- a sending class's virtual time
-  pub virtual-shown : (r : ℕ) → r < tree .rows → cond (sends tree r) 0 (virtual (after tree events n .rows) r) ≡ virtual (after tree events n .rows) r
+  virtual-shown : (r : ℕ) → r < tree .rows → cond (sends tree r) 0 (virtual (after tree events n .rows) r) ≡ virtual (after tree events n .rows) r
   virtual-shown r inside =
       left-out (sends tree r) _ (λ is. keeps .sender-virtual r (sends-sender tree r inside is))
 

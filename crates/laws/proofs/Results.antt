@@ -7,7 +7,7 @@ use mathlib.Core.List.{List, [], _∷_, _++_}
 use native.Mathlib.Decide.{decLt}
 use native.Mathlib.Omega.{arith}
 use lib.Dec.{eqb}
-use lib.ListN.{length, getD, take, drop, length-append, List·getD-append}
+use lib.ListN.{length, getD, take, drop, List·getD-append}
 use lib.Seq.{getD-append-add, getD-append-seam, take-append-seam}
 use lib.IntN.{pos}
 use borrow.Author.Tests.{eq-eqb, eqb-true}
@@ -19,6 +19,7 @@ use Rattle.rules.specs.Box.{Box}
 use Rattle.rules.specs.Steps.{after}
 use Rattle.rules.specs.Refusals.{refused}
 use Rattle.rules.specs.Outcome.{Lent, Outcome, row-report, report-of, lag, lags-of, over, room-of, refusing, doing, outcome}
+use Rattle.rules.proofs.Results.{report-length, lags-length}
 
 -- ── slices ──
 
@@ -32,21 +33,14 @@ unfolding over
 over-first xs ys = take-append-seam xs (drop (length xs) ys)
 
 module _ (tree : Tree) (box : Box) where
-  report-length : (n : ℕ) → length (report-of tree box n) ≡ report-words * n
-  unfolding report-of row-report
-  report-length zero = refl
-  report-length (suc n) =
-      let earlier = report-length n in
-      length-append (report-of tree box n) (row-report tree box n) ∙ omega arith
-
   -- row r's words stand from 5 · r on
-  pub report-at : (n r i : ℕ) → r < n → i < report-words → getD (report-of tree box n) (report-words * r + i) 0 ≡ getD (row-report tree box r) i 0
+  report-at : (n r i : ℕ) → r < n → i < report-words → getD (report-of tree box n) (report-words * r + i) 0 ≡ getD (row-report tree box r) i 0
   unfolding report-of
   report-at zero r i inside word = absurd (omega arith)
   report-at (suc n) r i inside word = go (decLt r n) (λ earlier. report-at n r i earlier word)
     where
       size : length (report-of tree box n) ≡ report-words * n
-      size = report-length n
+      size = report-length tree box n
 
       go :
           Dec (r < n) → (r < n → getD (report-of tree box n) (report-words * r + i) 0 ≡ getD (row-report tree box r) i 0)
@@ -58,20 +52,13 @@ module _ (tree : Tree) (box : Box) where
           let place : report-words * r + i ≡ length (report-of tree box n) + i = omega (arith, size) in
           rw (place, getD-append-add (report-of tree box n) (row-report tree box n) i 0) (ap (λ (k : ℕ). getD (row-report tree box k) i 0) (sym same))
 
-  lags-length : (n : ℕ) → length (lags-of tree box n) ≡ n
-  unfolding lags-of
-  lags-length zero = refl
-  lags-length (suc n) =
-      let earlier = lags-length n in
-      length-append (lags-of tree box n) (lag tree box n ∷ []) ∙ omega arith
-
-  pub lags-at : (n r : ℕ) → r < n → getD (lags-of tree box n) r (pos 0) ≡ lag tree box r
+  lags-at : (n r : ℕ) → r < n → getD (lags-of tree box n) r (pos 0) ≡ lag tree box r
   unfolding lags-of
   lags-at zero r inside = absurd (omega arith)
   lags-at (suc n) r inside = go (decLt r n) (lags-at n r)
     where
       size : length (lags-of tree box n) ≡ n
-      size = lags-length n
+      size = lags-length tree box n
 
       go :
           Dec (r < n) → (r < n → getD (lags-of tree box n) r (pos 0) ≡ lag tree box r)
@@ -104,7 +91,7 @@ module _ (lent : Lent) (done : outcome lent .answer .number ≡ 0) where
       go true e answer = eqb-true (refusal .number) 0 e
       go false e answer = answer
 
-  pub done-outcome : outcome lent ≡ doing lent (tree-of (lent .table)) last
+  done-outcome : outcome lent ≡ doing lent (tree-of (lent .table)) last
   unfolding outcome
   done-outcome = rw (eq-eqb (refusal .number) 0 not-refused)
 

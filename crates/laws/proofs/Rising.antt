@@ -3,7 +3,7 @@
 use Prim.Native.Nat.{ℕ, zero, suc, _≤_, _<_}
 use mathlib.Core.Path.{_≡_, refl, sym, _∙_, ap, subst}
 use mathlib.Core.Logic.{_≢_, _⊎_, inl, inr, ⊎-elim}
-use mathlib.Core.Bool.{Bool, true, false, false≢true}
+use mathlib.Core.Bool.{Bool, true, false, cond, false≢true}
 use native.Mathlib.Decide.{decLe}
 use native.Mathlib.Omega.{arith}
 use Rattle.rules.specs.Classes.{Tree, parent, depth}
@@ -15,8 +15,8 @@ use Rattle.rules.specs.declared.Why.the-variants.{Finished, Arrived}
 use Rattle.laws.specs.Sound.{Sound, Kid, Inner}
 use Rattle.laws.specs.Moves.{Full, SameRow, Headed, Dropped, Pick}
 use Rattle.laws.proofs.Heads.{has-true, has-false, same-row, then-same}
-use Rattle.laws.proofs.Ways.{kid-apart, parent-is-inner, root-within, nearer, self-within, parent-within, child-within, not-below}
-use Rattle.laws.proofs.Depths.{kid-deeper, lower-kid, off-at-parent, way-depth, way-higher, deeper-apart}
+use Rattle.laws.proofs.Paths.{kid-apart, parent-is-inner, root-within, nearer, self-within, parent-within, child-within, not-below}
+use Rattle.laws.proofs.Depths.{kid-deeper, lower-kid, off-at-parent, path-depth, path-higher, deeper-apart}
 use Rattle.laws.proofs.Choosing.{Nobody, Somebody, new-head-here, chooses-full, chooses-elsewhere, chooses-what}
 
 -- row p has chosen. `x` is the state before any row chose, `y` the state after all did; p's children are those of `y`
@@ -26,7 +26,7 @@ pub data Chosen (tree : Tree) (why : Why) (x y : Rows) (p : ℕ) : Type 0 where
       → Chosen tree why x y p
   somebody : (k : ℕ) → Somebody tree why x y p k → Chosen tree why x y p
 
--- the rows on the way from r that are less deep than r, and as deep as `top` or deeper, chose; no other row changed
+-- the rows on the path from r that are less deep than r, and as deep as `top` or deeper, chose; no other row changed
 pub record Risen (tree : Tree) (why : Why) (r : ℕ) (x y : Rows) : Type 0 where
   pub full : Full y
   pub top : ℕ
@@ -128,8 +128,8 @@ module _ (tree : Tree) (sound : Sound tree) (why : Why) where
         here = same-row x r;
         off = λ j off. same-row x j;
         over = λ j less. same-row x j;
-        free = λ p c kid on low. let h = way-higher tree sound r p c (kid-r .inside) kid on in absurd (omega arith);
-        chose = λ p c kid on low. let h = way-higher tree sound r p c (kid-r .inside) kid on in absurd (omega arith);
+        free = λ p c kid on low. let h = path-higher tree sound r p c (kid-r .inside) kid on in absurd (omega arith);
+        chose = λ p c kid on low. let h = path-higher tree sound r p c (kid-r .inside) kid on in absurd (omega arith);
         ended = ended;
       }
     where
@@ -137,7 +137,7 @@ module _ (tree : Tree) (sound : Sound tree) (why : Why) where
       ended p c kid on e =
           let deeper = kid-deeper tree sound p c kid in
           ⊎-elim (λ same. subst (λ (i : ℕ). head x i ≢ 0) (sym (kid-r .under) ∙ ap (parent tree) (sym same) ∙ kid .under) has)
-          (λ less. absurd (omega arith)) (way-depth tree sound r c (kid-r .inside) on)
+          (λ less. absurd (omega arith)) (path-depth tree sound r c (kid-r .inside) on)
 
   -- the parent q of r has none: it chooses, and what is above it goes on from there
   goes-up :
@@ -150,7 +150,7 @@ module _ (tree : Tree) (sound : Sound tree) (why : Why) where
         here = by-then r (kid-apart tree sound q r kid-r) (risen .off r (not-below tree sound q r kid-r));
         off =
             λ j off.
-            by-then j (λ e. false≢true (sym off ∙ subst (λ (i : ℕ). within tree i r ≡ true) (sym e) way-q))
+            by-then j (λ e. false≢true (sym off ∙ subst (λ (i : ℕ). within tree i r ≡ true) (sym e) path-q))
             (risen .off j (off-at-parent tree sound q r j kid-r off));
         over =
             λ j less.
@@ -179,8 +179,8 @@ module _ (tree : Tree) (sound : Sound tree) (why : Why) where
       by-then : (j : ℕ) → j ≢ q → SameRow (chooses tree why q x) y j → SameRow x y j
       by-then j apart later = then-same x (chooses tree why q x) y j (chooses-elsewhere tree sound why q inner x full j apart) later
 
-      way-q : within tree q r ≡ true
-      way-q = parent-within tree sound q r r (kid-r .inside) kid-r (self-within tree sound r)
+      path-q : within tree q r ≡ true
+      path-q = parent-within tree sound q r r (kid-r .inside) kid-r (self-within tree sound r)
 
       before : (j : ℕ) → depth tree j < depth tree q → SameRow x (chooses tree why q x) j
       before j less = chooses-elsewhere tree sound why q inner x full j (deeper-apart tree sound j q less)
@@ -188,11 +188,11 @@ module _ (tree : Tree) (sound : Sound tree) (why : Why) where
       before-parent : (p : ℕ) → p < tree .rows → depth tree p < depth tree q → 0 < p → SameRow x (chooses tree why q x) (parent tree p)
       before-parent p inside less positive = let deeper = sound .deeper p positive inside in before (parent tree p) (omega arith)
 
-      -- a parent on the way from r is q, or one on the way from q
+      -- a parent on the path from r is q, or one on the path from q
       which : (p c : ℕ) → Kid tree p c → within tree c r ≡ true → (p ≡ q) ⊎ ((within tree c q ≡ true) × (depth tree p < depth tree q))
       which p c kid on =
           ⊎-elim (λ here. inl (sym (kid .under) ∙ ap (parent tree) (sym here) ∙ kid-r .under))
-          (λ above. let on-q = rw (kid-r .under) at above in inr (on-q, way-higher tree sound q p c (inner .inside) kid on-q))
+          (λ above. let on-q = rw (kid-r .under) at above in inr (on-q, path-higher tree sound q p c (inner .inside) kid on-q))
           (nearer tree sound c r (kid-r .positive) (kid-r .inside) on)
 
       chose-q : Chosen tree why x y q
@@ -211,8 +211,8 @@ module _ (tree : Tree) (sound : Sound tree) (why : Why) where
         here = same-row x r;
         off = λ j off. same-row x j;
         over = λ j less. same-row x j;
-        free = λ p c kid on low. let h = way-higher tree sound r p c inside kid on in absurd (omega arith);
-        chose = λ p c kid on low. let h = way-higher tree sound r p c inside kid on in absurd (omega arith);
+        free = λ p c kid on low. let h = path-higher tree sound r p c inside kid on in absurd (omega arith);
+        chose = λ p c kid on low. let h = path-higher tree sound r p c inside kid on in absurd (omega arith);
         ended = λ p c kid on e. absurd (omega arith);
       }
   rises (suc d) r x inside deep full =
@@ -229,7 +229,7 @@ module _ (tree : Tree) (sound : Sound tree) (why : Why) where
       go :
           (b : Bool) → has-head x (parent tree r) ≡ b
           → Risen tree why (parent tree r) (chooses tree why (parent tree r) x) (up d tree why (parent tree r) (chooses tree why (parent tree r) x))
-          → Risen tree why r x (elim b [ true ↦ x | false ↦ up d tree why (parent tree r) (chooses tree why (parent tree r) x) ])
+          → Risen tree why r x (cond b x (up d tree why (parent tree r) (chooses tree why (parent tree r) x)))
       go true e risen = stays r (parent tree r) x full kid (has-true x (parent tree r) e)
       go false e risen = goes-up r (parent tree r) x _ full kid (has-false x (parent tree r) e) risen
 

@@ -13,7 +13,7 @@ use Rattle.rules.specs.Box.{Rows, start, finish, head, head-length, head-class}
 use Rattle.rules.specs.Promise.{within}
 use Rattle.laws.specs.Sound.{Sound, Kid, Inner, Sender}
 use Rattle.laws.specs.Moves.{SameHead, Settled, SameKid, SameTop, Still, Others, Headed, Dropped, Pick}
-use Rattle.laws.proofs.Ways.{its-parent, parent-is-inner, self-within, parent-within, sender-alone}
+use Rattle.laws.proofs.Paths.{its-parent, parent-is-inner, self-within, parent-within, sender-alone}
 use Rattle.laws.proofs.Depths.{sender-or-inner, from-children}
 use Rattle.laws.proofs.Rising.{taken-head}
 

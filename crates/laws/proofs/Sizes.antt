@@ -21,15 +21,16 @@ use Rattle.laws.specs.Moves.{Others, Still, Headed, Dropped, Pick, Arriv
 use Rattle.laws.specs.Kept.{Kept}
 use Rattle.laws.specs.History.{Accepted}
 use Rattle.laws.specs.Counts.{Below}
+use Rattle.laws.specs.Line.{line-class, left}
 use Rattle.laws.proofs.Tests.{cond-most, cond-least}
-use Rattle.laws.proofs.Ways.{its-parent, parent-is-inner}
+use Rattle.laws.proofs.Paths.{its-parent, parent-is-inner}
 use Rattle.laws.proofs.Depths.{sender-or-inner}
 use Rattle.laws.proofs.Trees.{share-positive, share-whole, charge-close}
 use Rattle.laws.proofs.ArrivalPath.{arrives-quiet}
 use Rattle.laws.proofs.DeparturePath.{departs-quiet}
 use Rattle.laws.proofs.Turns.{class-at, fewer, turn}
 use Rattle.laws.proofs.Outset.{zeros-at}
-use Rattle.laws.proofs.OneEvent.{line-class, left, arrival-at, arrival-held, arrival-bytes, arrival-since, arrival-parent-since, mark-most}
+use Rattle.laws.proofs.OneEvent.{arrival-at, arrival-held, arrival-bytes, arrival-since, arrival-parent-since, mark-most}
 use Rattle.laws.proofs.OneEvent.{left-next, departure-on, departure-off, departure-bytes}
 use Rattle.laws.proofs.Keeping.{arrival-kept, departure-kept, departure-fewer, kept-under}
 
@@ -142,7 +143,7 @@ module _
     (tree : Tree) (sound : Sound tree) (big : ℕ → ℕ) (wider : (j : ℕ) → 0 < j → j < tree .rows → big j ≤ big (parent tree j))
     (most : ℕ) (bound : (r : ℕ) → r < tree .rows → big r ≤ most) where
   module _ (now : ℕ) (box : Box) (kept : Kept tree big now box) (m : ℕ) (below : Below tree (box .rows) m) where
-    pub arrival-below : (k length : ℕ) → Sender tree k → 0 < length → length ≤ big k → Below tree (arrival tree now k length box .rows) (m + scale * most)
+    arrival-below : (k length : ℕ) → Sender tree k → 0 < length → length ≤ big k → Below tree (arrival tree now k length box .rows) (m + scale * most)
     unfolding arrival
     arrival-below k length sender some small =
         let quiet = arrives-quiet tree sound (box .rows) (kept .rows-full) (kept .settled) now k length sender some in
@@ -160,7 +161,7 @@ module _
         go p inside (inl still) = still-below tree sound (box .rows) next most m below heads p inside still
         go p inside (inr at) = arrival-level tree sound (box .rows) next most m below heads k p (at .0) inside (at .1)
 
-    pub departure-below : head (box .rows) 0 ≢ 0 → Below tree (departure tree box .rows) (m + scale * most)
+    departure-below : head (box .rows) 0 ≢ 0 → Below tree (departure tree box .rows) (m + scale * most)
     unfolding departure
     departure-below busy =
         let quiet = departs-quiet tree sound (box .rows) (kept .rows-full) (kept .settled) busy (left box) (left-next tree sound big now box kept busy) in
@@ -182,18 +183,20 @@ module _
 
 -- ── a run ──
 
--- no packet of an accepted event has more
-abbrev few : ℕ → ℕ
+-- no packet of an accepted event has more bytes, whatever the row
+abbrev pub few : ℕ → ℕ
 few r = most-bytes
 
 module _ (tree : Tree) (events : Events) where
   earlier : (n : ℕ) → Accepted tree events (suc n) → Accepted tree events n
   earlier n ok = fewer tree events n (suc n) (omega arith) ok
 
-  few-wider : (j : ℕ) → 0 < j → j < tree .rows → few j ≤ few (parent tree j)
+  -- a bound that is the same for a row and its parent
+  pub few-wider : (j : ℕ) → 0 < j → j < tree .rows → few j ≤ few (parent tree j)
   few-wider j positive inside = omega arith
 
-  small-kept : (n : ℕ) → Accepted tree events n → Kept tree few n (after tree events n)
+  -- a run's box is well kept with it
+  pub small-kept : (n : ℕ) → Accepted tree events n → Kept tree few n (after tree events n)
   small-kept n ok = kept-under tree events n ok few few-wider (λ i before fits. fits .few-bytes) n (omega arith)
 
   pub tags-below : (n : ℕ) → Accepted tree events n → Below tree (after tree events n .rows) (n * (scale * most-bytes))

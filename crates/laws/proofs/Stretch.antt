@@ -1,13 +1,13 @@
 -- A stretch of a run: the paces while a row holds packets, where a backlog begins, and what the stretch finishes.
 -- Assumes nothing.
-use Prim.Native.Nat.{ℕ, suc, _+_, _-_, _≤_, _<_}
+use Prim.Native.Nat.{ℕ, suc, _+_, _≤_, _<_}
 use mathlib.Core.Path.{_≡_, refl, sym, _∙_, ap}
 use mathlib.Core.Logic.{_≢_}
 use mathlib.Core.List.{List, [], _∷_, _++_}
 use native.Mathlib.Decide.{le-ind}
 use native.Mathlib.Omega.{arith}
-use lib.ListN.{getD, take, drop}
-use lib.Seq.{take-add}
+use lib.ListN.{getD, take, drop, take-append-drop}
+use lib.Seq.{take-take}
 use Rattle.rules.specs.Classes.{Tree, parent}
 use Rattle.rules.specs.Events.{Events, length-word}
 use Rattle.rules.specs.Box.{Box, head, bytes-of, held-by}
@@ -15,19 +15,15 @@ use Rattle.rules.specs.Steps.{departure, after}
 use Rattle.rules.specs.Promise.{within, finish-count, bytes-for, finished, finished-in}
 use Rattle.laws.specs.Sound.{Kid}
 use Rattle.laws.specs.Kept.{Kept}
-use Rattle.laws.specs.History.{Accepted}
+use Rattle.laws.specs.History.{Accepted, Keeps}
 use Rattle.laws.specs.Counts.{OwnPace, WholePace, Paced}
-use Rattle.laws.proofs.Ways.{parent-is-inner}
+use Rattle.laws.proofs.Paths.{parent-is-inner}
 use Rattle.laws.proofs.Turns.{class-at, turn}
 use Rattle.laws.proofs.Largest.{parts-largest, accepted-wider}
 use Rattle.laws.proofs.OneEvent.{arrival-held, arrival-bytes, arrival-since, arrival-parent-since, mark-stays, mark-set}
 use Rattle.laws.proofs.Keeping.{holds-head, departure-fewer, kept}
 use Rattle.laws.proofs.History.{bytes-counted}
 use Rattle.laws.proofs.Pace.{arrival-paced, departure-paced}
-
--- row r holds a packet at the moment m and after each of the events m .. n - 1
-abbrev pub Keeps : Tree → Events → ℕ → ℕ → ℕ → Type 0
-Keeps tree events r m n = (i : ℕ) → m ≤ i → i ≤ n → 0 < held-by (after tree events i) r
 
 -- two boxes between which p's child j held packets all the time
 pub record Stretched (tree : Tree) (one two : Box) (p j : ℕ) : Type 0 where
@@ -137,11 +133,10 @@ unfolding finished finished-in
 bytes-in tree events last ok a b r order earlier inside =
     let grows = finish-grows events a b order in
     let from = finish-count events a in
-    let more = finish-count events b - finish-count events a in
-    let split : finish-count events b ≡ from + more = omega arith in
     let whole-order = after tree events last .order in
+    let by-then = take (finish-count events b) whole-order in
     bytes-counted tree events b last r earlier ok inside
-    ∙ ap (λ (n : ℕ). bytes-for tree events r (take n whole-order)) split
-    ∙ ap (λ (xs : List ℕ). bytes-for tree events r xs) (take-add from more whole-order)
-    ∙ bytes-append tree events r (take from whole-order) (take more (drop from whole-order))
-    ∙ ap (λ (x : ℕ). x + bytes-for tree events r (take more (drop from whole-order))) (sym (bytes-counted tree events a last r (omega arith) ok inside))
+    ∙ ap (bytes-for tree events r) (sym (take-append-drop from by-then))
+    ∙ bytes-append tree events r (take from by-then) (drop from by-then)
+    ∙ ap (λ (xs : List ℕ). bytes-for tree events r xs + bytes-for tree events r (drop from by-then)) (take-take from (finish-count events b) whole-order grows)
+    ∙ ap (λ (x : ℕ). x + bytes-for tree events r (drop from by-then)) (sym (bytes-counted tree events a last r (omega arith) ok inside))

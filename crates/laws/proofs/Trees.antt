@@ -1,22 +1,21 @@
 -- A table and an event list that are not refused: what follows from that.
 -- Assumes nothing.
-use Prim.Native.Nat.{ℕ, zero, suc, _+_, _*_, _/_, _%_, _≤_, _<_}
+use Prim.Native.Nat.{ℕ, zero, suc, _+_, _*_, _/_, _≤_, _<_}
 use mathlib.Core.Path.{_≡_, refl, sym, _∙_, ap, subst}
 use mathlib.Core.Logic.{_≢_}
-use mathlib.Core.Bool.{Bool, true, false, cond, not, _&&_, _||_}
+use mathlib.Core.Bool.{Bool, true, false, cond, not, _||_}
 use mathlib.Core.List.{List, [], _∷_}
 use mathlib.Mathlib.Data.Bool.Basic.{or-eq-false-eq-eq-false-and-eq-false as or-is-false}
 use native.Mathlib.Nat.{div-add-mod, mul-left-comm, mul-comm}
 use native.Mathlib.Decide.{ℕ-discrete}
 use native.Mathlib.Omega.{arith}
-use lib.Dec.{T, leb, ltb, eqb, leb→le, eqb→eq}
+use lib.Dec.{T, ltb, eqb}
 use lib.ListN.{length, getD, set, take, length-set, length-take, length-replicate}
 use lib.Seq.{getD-set-same, getD-set-other}
-use mir.Facts.{and-yes}
 use borrow.Author.Tests.{ltb-false, eqb-true, eqb-false, ne-eqb, not-false}
 use Rattle.rules.specs.declared.Event.the-variants.{Arrival, Finish}
 use Rattle.rules.specs.declared.Refusal.{Refusal}
-use Rattle.rules.specs.Limits.{least-rows, most-rows, most-depth, least-bytes, most-bytes, least-share, whole, scale}
+use Rattle.rules.specs.Limits.{least-rows, most-rows, most-depth, least-bytes, most-bytes, whole, scale}
 use Rattle.rules.specs.Shares.{allowed, cost, charge}
 use Rattle.rules.specs.Classes.{Table, place-of, earlier, parent-of, zeros, with-row, read, tree-of}
 use Rattle.rules.specs.Classes.{Tree, parent, depth, share, row-of, sends, children-share}
@@ -24,19 +23,12 @@ use Rattle.rules.specs.Events.{Events, count}
 use Rattle.rules.specs.Box.{Box, has-head}
 use Rattle.rules.specs.Refusals.{given, or-else, first, first-below, Room, rows-refused, class-refused, row-refused}
 use Rattle.rules.specs.Refusals.{shares-refused, table-refused, idle, meeting-refused, event-refused, refused}
+use Rattle.rules.proofs.ShareTable.{allowed-parts}
 use Rattle.laws.specs.Sound.{Sound, ArrivalFits}
 use Rattle.laws.specs.History.{Accepted}
-use Rattle.laws.proofs.Ways.{sends-sender}
+use Rattle.laws.proofs.Paths.{sends-sender}
 
 -- ── shares ──
-
--- what the test of a share says
-allowed-parts : (w : ℕ) → T (allowed w) → (1 ≤ w) × (w ≤ whole) × (scale % w ≡ 0)
-unfolding allowed
-allowed-parts w ok =
-    let divides = and-yes (leb least-share w && leb w whole) (eqb (scale % w) 0) ok in
-    let bounds = and-yes (leb least-share w) (leb w whole) (divides .0) in
-    (leb→le least-share w (bounds .0), leb→le w whole (bounds .1), eqb→eq (scale % w) 0 (divides .1))
 
 -- an allowed share, and what it is charged: never less than the packet's part of the scale, and by less than a tick more
 pub share-positive : (w : ℕ) → T (allowed w) → 0 < w
@@ -65,7 +57,7 @@ charge-close w l ok =
 -- ── no refusal ──
 
 -- where the first of two refusals is none, neither refuses
-or-none : (x y : Refusal) → or-else x y .number ≡ 0 → (x .number ≡ 0) × (y .number ≡ 0)
+pub or-none : (x y : Refusal) → or-else x y .number ≡ 0 → (x .number ≡ 0) × (y .number ≡ 0)
 unfolding or-else
 or-none x y ok = go (eqb (x .number) 0) refl ok
   where
@@ -83,7 +75,8 @@ unfolding first
 first-none [] ok = tt
 first-none (x ∷ xs) ok = let both = or-none x (first xs) ok in (both .0, first-none xs (both .1))
 
-below-none : (at : ℕ → Refusal) (n : ℕ) → first-below at n .number ≡ 0 → (i : ℕ) → i < n → at i .number ≡ 0
+-- nor at any place where the first of many is none
+pub below-none : (at : ℕ → Refusal) (n : ℕ) → first-below at n .number ≡ 0 → (i : ℕ) → i < n → at i .number ≡ 0
 unfolding first-below
 below-none at zero ok i below = absurd (omega arith)
 below-none at (suc n) ok i below =
@@ -95,7 +88,7 @@ below-none at (suc n) ok i below =
     go earlier last (no other) = earlier (omega arith)
 
 -- a test that would refuse has failed
-given-none : (test : Bool) (number place : ℕ) → given test (suc number) place .number ≡ 0 → test ≡ false
+pub given-none : (test : Bool) (number place : ℕ) → given test (suc number) place .number ≡ 0 → test ≡ false
 unfolding given
 given-none true number place ok = absurd (omega arith)
 given-none false number place ok = refl
@@ -108,7 +101,7 @@ unfolding place-of
 place-most x [] = omega arith
 place-most x (y ∷ ys) = go (eqb x y) (place-most x ys)
   where
-    go : (b : Bool) → place-of x ys ≤ length ys → (elim b [ true ↦ 0 | false ↦ suc (place-of x ys) ]) ≤ suc (length ys)
+    go : (b : Bool) → place-of x ys ≤ length ys → cond b 0 (suc (place-of x ys)) ≤ suc (length ys)
     go true most = omega arith
     go false most = omega arith
 

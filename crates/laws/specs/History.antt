@@ -1,10 +1,13 @@
--- What the theorems count in a list of events: the events that are not refused, the largest packets, a class's arrivals.
-use Prim.Native.Nat.{ℕ, zero, suc, _<_, max}
+-- What the theorems count in a list of events: the events that are not refused, the largest packets, backlogs, a class's arrivals.
+use Prim.Native.Nat.{ℕ, zero, suc, _≤_, _<_, max}
 use mathlib.Core.Path.{_≡_}
 use mathlib.Core.Bool.{cond}
 use mathlib.Core.List.{List, [], _∷_, _++_}
-use Rattle.rules.specs.Classes.{Tree}
+use lib.ListN.{getD}
+use Rattle.rules.specs.Classes.{Tree, parent}
 use Rattle.rules.specs.Events.{Events, length-word, event}
+use Rattle.rules.specs.Box.{bytes-of, held-by}
+use Rattle.rules.specs.Steps.{after}
 use Rattle.rules.specs.Refusals.{event-refused}
 use Rattle.rules.specs.Promise.{for-part}
 use Rattle.rules.specs.declared.Event.the-variants.{Arrival, Finish}
@@ -19,6 +22,16 @@ pub record Accepted (tree : Tree) (events : Events) (n : ℕ) : Type 0 where
 unfoldable pub largest-for : Tree → Events → ℕ → ℕ → ℕ
 largest-for tree events r zero = 0
 largest-for tree events r (suc n) = max (largest-for tree events r n) (cond (for-part tree events r n) (length-word events n) 0)
+
+-- row r holds a packet at the moment m and after each of the events m .. n - 1
+abbrev pub Keeps : Tree → Events → ℕ → ℕ → ℕ → Type 0
+Keeps tree events r m n = (i : ℕ) → m ≤ i → i ≤ n → 0 < held-by (after tree events i) r
+
+-- a moment m from which on row r holds a packet, with the counts from which its lag at n is counted
+abbrev pub Since : Tree → Events → ℕ → ℕ → Type 0
+Since tree events r n =
+    (m : ℕ) × (m ≤ n) × Keeps tree events r m n × (getD (after tree events n .since) r 0 ≡ bytes-of (after tree events m) r)
+    × (getD (after tree events n .parent-since) r 0 ≡ bytes-of (after tree events m) (parent tree r))
 
 -- the packets that arrived for class k in the first n events, by place
 unfoldable pub arrivals-of : Tree → Events → ℕ → ℕ → List ℕ

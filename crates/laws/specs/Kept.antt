@@ -1,5 +1,5 @@
 -- A box that is well kept: what every state has that accepted events reach, said of the table and the state alone.
--- `big r` is a number that no packet in row r's part of the tree exceeds; for the largest packet it may be that.
+-- `big r` is a number that no packet in row r's part of the tree exceeds; the largest packet of that part is such a number.
 use Prim.Native.Nat.{ℕ, suc, _+_, _*_, _-_, _≤_, _<_}
 use mathlib.Core.Path.{_≡_}
 use mathlib.Core.Logic.{_≢_}
@@ -18,11 +18,11 @@ use Rattle.laws.specs.Level.{Mode, idle, waits, taken, sum, Behind}
 
 -- ── a level, as the level's laws see it ──
 
--- what p's children have of the share, by row; a row that is no child of p has nothing
+-- what p's children have of the share, by row; 0 for any other row
 unfoldable pub weight : Tree → ℕ → ℕ → ℕ
 weight tree p j = cond (child tree p j) (share tree j) 0
 
--- the share that p's children do not have
+-- what is left of the whole beside p's children
 unfoldable pub spare : Tree → ℕ → ℕ
 spare tree p = whole - children-share tree p (tree .rows)
 

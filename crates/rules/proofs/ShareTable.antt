@@ -1,6 +1,6 @@
 -- The table of shares holds every allowed share and no other number, ascending, 95 in all: one computed test, and what it means.
 -- Assumes nothing.
-use Prim.Native.Nat.{ℕ, zero, suc, _<_, _≤_}
+use Prim.Native.Nat.{ℕ, zero, suc, _%_, _<_, _≤_}
 use mathlib.Core.Path.{_≡_, refl, sym, subst}
 use mathlib.Core.Bool.{Bool, true, false, cond, _&&_}
 use mathlib.Core.Logic.{⊎-elim}
@@ -8,18 +8,19 @@ use mathlib.Core.List.{List, [], _∷_, _++_, List·Memᴰ, List·Memᴰ·head}
 use mathlib.Core.List.{Memᴰ·append-left, Memᴰ·append-right, List·Memᴰ·append-cases, List·Memᴰ·eq-of-singleton, List·Memᴰ·not-nil}
 use native.Mathlib.Decide.{ℕ-discrete}
 use native.Mathlib.Omega.{arith}
-use lib.Dec.{T, leb, leb→le}
+use lib.Dec.{T, leb, eqb, leb→le, eqb→eq}
 use lib.ListN.{length}
-use Rattle.rules.specs.Limits.{least-share, whole}
+use mir.Facts.{and-yes}
+use Rattle.rules.specs.Limits.{least-share, whole, scale}
 use Rattle.rules.specs.Shares.{allowed, share-table}
 
 -- the numbers below n that pass a test, ascending
-passing : (ℕ → Bool) → ℕ → List ℕ
+pub passing : (ℕ → Bool) → ℕ → List ℕ
 passing test zero = []
 passing test (suc n) = cond (test n) (passing test n ++ n ∷ []) (passing test n)
 
--- the one test: all numbers up to the whole are tried
-computed : share-table ≡ passing allowed (suc whole)
+-- the one test: all numbers up to the whole are tried, from the least up
+pub computed : share-table ≡ passing allowed (suc whole)
 unfolding share-table allowed passing
 computed = refl
 
@@ -56,19 +57,18 @@ module _ (test : ℕ → Bool) where
   none-else zero w m = absurd (List·Memᴰ·not-nil m)
   none-else (suc n) w m = of-last n w (test n) refl (none-else n w) m
 
-at-most-whole : (w : ℕ) → T (allowed w) → w ≤ whole
+-- what the test of a share says
+pub allowed-parts : (w : ℕ) → T (allowed w) → (least-share ≤ w) × (w ≤ whole) × (scale % w ≡ 0)
 unfolding allowed
-at-most-whole w t = leb→le w whole (second (leb least-share w) (leb w whole) _ t)
-  where
-    second : (a b c : Bool) → T (a && b && c) → T b
-    second true true c t = tt
-    second true false c t = t
-    second false b c t = absurd t
+allowed-parts w ok =
+    let divides = and-yes (leb least-share w && leb w whole) (eqb (scale % w) 0) ok in
+    let bounds = and-yes (leb least-share w) (leb w whole) (divides .0) in
+    (leb→le least-share w (bounds .0), leb→le w whole (bounds .1), eqb→eq (scale % w) 0 (divides .1))
 
 -- every allowed share is in the table
 pub holds-every : (w : ℕ) → T (allowed w) → List·Memᴰ w share-table
 holds-every w t =
-    let bound = at-most-whole w t in
+    let bound = allowed-parts w t .1 in
     subst (λ (xs : List ℕ). List·Memᴰ w xs) (sym computed) (all-pass allowed (suc whole) w (omega arith) t)
 
 -- and whatever is in the table is an allowed share

@@ -1,7 +1,7 @@
 -- The worked runs come out of the definitions: one statement over the whole list, proved by computing it.
 -- Assumes nothing.
 use mathlib.Core.Path.{_≡_, refl}
-use mathlib.Core.List.{List, map}
+use mathlib.Core.List.{map}
 use Rattle.rules.specs.Shares.{allowed, cost, charge}
 use Rattle.rules.specs.Classes.{place-of, earlier, parent-of, zeros, with-row, read, tree-of, row-of, child, has-child, sends, children-share}
 use Rattle.rules.specs.Events.{decode, event}

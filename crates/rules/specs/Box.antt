@@ -1,9 +1,9 @@
--- The state of the box. Every list has an entry for each row that there can be.
+-- The state of the box. Every list but the order has an entry for each row that there can be.
 use Prim.Native.Nat.{ℕ}
 use mathlib.Core.Bool.{Bool, not}
 use mathlib.Core.List.{List, []}
 use lib.Dec.{eqb}
-use lib.ListN.{getD, set, replicate}
+use lib.ListN.{getD, replicate}
 use Rattle.rules.specs.Limits.{most-rows}
 use Rattle.rules.specs.Classes.{zeros}
 

@@ -1,6 +1,6 @@
--- The class table and how it is read: parents as rows, children, depth, sending classes. Row 0 is the root, the line itself.
+-- The class table and how it is read: parents as rows, children, depth, sending classes. The root, row 0, is the line.
 use Prim.Native.Nat.{ℕ, zero, suc, _+_}
-use mathlib.Core.Bool.{Bool, true, false, cond, not, _&&_, _||_}
+use mathlib.Core.Bool.{Bool, false, cond, not, _&&_, _||_}
 use mathlib.Core.List.{List, [], _∷_}
 use lib.Dec.{ltb, eqb}
 use lib.ListN.{length, getD, take, set, replicate}
@@ -23,7 +23,7 @@ pub record Tree : Type 0 where
 -- the place of the first x in a list; the list's length where it has none
 unfoldable pub place-of : ℕ → List ℕ → ℕ
 place-of x [] = 0
-place-of x (y ∷ ys) = elim (eqb x y) [ true ↦ 0 | false ↦ suc (place-of x ys) ]
+place-of x (y ∷ ys) = cond (eqb x y) 0 (suc (place-of x ys))
 
 -- the earlier row whose identifier is x; r itself where there is none
 unfoldable pub earlier : Table → ℕ → ℕ → ℕ

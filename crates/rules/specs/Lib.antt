@@ -1,4 +1,5 @@
--- The rules of the box, a file for each part of them. A reader must believe these definitions; nothing here is code.
+-- The rules of the box, a file for each part of them. A reader must believe these definitions; Worked alone is what is
+-- expected of them. Nothing here is code.
 pub mod Limits
 pub mod Shares
 pub mod Classes

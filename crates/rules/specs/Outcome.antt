@@ -1,6 +1,6 @@
 -- The run's whole outcome: the answer, and every word of every lent slice afterwards.
 use Prim.Native.Nat.{ℕ, zero, suc, _*_, _-_}
-use mathlib.Core.Bool.{Bool, true, false, cond, _||_}
+use mathlib.Core.Bool.{cond, _||_}
 use mathlib.Core.List.{List, [], _∷_, _++_}
 use lib.Dec.{eqb}
 use lib.ListN.{length, getD, drop, replicate}

@@ -1,7 +1,6 @@
--- The words of the promise on shares. What is counted here comes from the table, the events and the order alone, so that a
--- reader of the promise need not know the inside of the box.
+-- The promise on shares and its words. They look at the table, the events and the order, and at nothing inside the box.
 use Prim.Native.Nat.{ℕ, zero, suc, _+_, _*_, _-_, _≤_, _<_, max}
-use mathlib.Core.Bool.{Bool, true, false, cond, _||_}
+use mathlib.Core.Bool.{Bool, cond, _||_}
 use mathlib.Core.List.{List, [], _∷_}
 use lib.Dec.{eqb}
 use lib.ListN.{take, drop}
@@ -13,14 +12,14 @@ use Rattle.rules.specs.Events.{Events, class-word, length-word, event}
 
 -- ── parts of the tree ──
 
--- row r stands on the way from row k, which is at this depth, up to the root
-unfoldable pub on-way : ℕ → Tree → ℕ → ℕ → Bool
-on-way zero tree k r = eqb k r
-on-way (suc d) tree k r = eqb k r || on-way d tree (parent tree k) r
+-- the path from row k, which is at this depth, up to the root has row r
+unfoldable pub path-has : ℕ → Tree → ℕ → ℕ → Bool
+path-has zero tree k r = eqb k r
+path-has (suc d) tree k r = eqb k r || path-has d tree (parent tree k) r
 
 -- row k is in row r's part of the tree: r itself, or below it
 unfoldable pub within : Tree → ℕ → ℕ → Bool
-within tree r k = on-way (depth tree k) tree k r
+within tree r k = path-has (depth tree k) tree k r
 
 -- the packet named i is for a class in row r's part of the tree
 unfoldable pub for-part : Tree → Events → ℕ → ℕ → Bool
@@ -70,7 +69,7 @@ finished events order n = take (finish-count events n) order
 
 -- the packets finished in the stretch of events from place a up to, and without, place b
 unfoldable pub finished-in : Events → List ℕ → ℕ → ℕ → List ℕ
-finished-in events order a b = take (finish-count events b - finish-count events a) (drop (finish-count events a) order)
+finished-in events order a b = drop (finish-count events a) (finished events order b)
 
 -- the packets that row r's part of the tree holds after the first n events
 unfoldable pub holds : Tree → Events → List ℕ → ℕ → ℕ → ℕ
@@ -100,6 +99,16 @@ unfoldable pub climbed : ℕ → Tree → ℕ → ℕ → Ratio → Ratio
 climbed zero tree largest k q = q
 climbed (suc d) tree largest k q = climbed d tree largest (parent tree k) (step-up largest (share tree k) q)
 
--- the number for class k from its own bytes
+-- the number for row k from its own bytes
 unfoldable pub number : Tree → ℕ → ℕ → ℕ → Ratio
 number tree largest k own = climbed (depth tree k) tree largest k (record { numerator = own; denominator = 1 })
+
+-- ── the promise ──
+
+-- to row k in a stretch: the bytes that the whole line finished in it are at most the number from k's own. That is a fraction, so both
+-- sides are taken times its denominator
+abbrev pub Promised : Tree → Events → List ℕ → ℕ → ℕ → ℕ → ℕ → Type 0
+Promised tree events order largest k a b =
+    let packets = finished-in events order a b in
+    let most = number tree largest k (bytes-for tree events k packets) in
+    bytes-for tree events 0 packets * most .denominator ≤ most .numerator

@@ -1,15 +1,15 @@
 -- Refusals: what is refused, with which number and where, and in which order the rules look for it.
 use Prim.Native.Nat.{ℕ, zero, suc, _*_}
-use mathlib.Core.Bool.{Bool, true, false, cond, not, _&&_, _||_}
+use mathlib.Core.Bool.{Bool, cond, not, _||_}
 use mathlib.Core.List.{List, [], _∷_}
-use lib.Dec.{leb, ltb, eqb}
+use lib.Dec.{ltb, eqb}
 use lib.ListN.{length, getD}
 use Rattle.rules.specs.declared.Event.{Event}
 use Rattle.rules.specs.declared.Event.the-variants.{Arrival, Finish}
 use Rattle.rules.specs.declared.Refusal.{Refusal}
 use Rattle.rules.specs.Limits.{least-rows, most-rows, most-depth, most-events, least-bytes, most-bytes, whole, report-words}
 use Rattle.rules.specs.Shares.{allowed}
-use Rattle.rules.specs.Classes.{Table, Tree, earlier, parent-of, tree-of, parent, depth, row-of, sends, children-share}
+use Rattle.rules.specs.Classes.{Table, Tree, earlier, parent-of, tree-of, depth, row-of, sends, children-share}
 use Rattle.rules.specs.Events.{Events, count, length-word, event}
 use Rattle.rules.specs.Box.{Box, has-head}
 use Rattle.rules.specs.Steps.{after}

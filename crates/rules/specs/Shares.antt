@@ -9,7 +9,8 @@ use Rattle.rules.specs.Limits.{least-share, whole, scale}
 unfoldable pub allowed : ℕ → Bool
 allowed share = leb least-share share && leb share whole && eqb (scale % share) 0
 
--- the allowed shares, ascending: every one of them and no other number (proofs/ShareTable.antt)
+-- the allowed shares, ascending: every one of them and no other number (proofs/ShareTable.antt). No other definition uses it; it stands
+-- beside the table that the code has
 unfoldable pub share-table : List ℕ
 share-table =
     1 ∷ 2 ∷ 3 ∷ 4 ∷ 5 ∷ 6 ∷ 7 ∷ 8 ∷ 9 ∷ 10 ∷ 12 ∷ 14 ∷ 15 ∷ 16 ∷ 18 ∷ 20

@@ -1,6 +1,6 @@
 -- The steps of the box: choosing at a row and up the tree, an arrival, the line's finish; and the box after some events.
 use Prim.Native.Nat.{ℕ, zero, suc, pred, _+_, _*_, max}
-use mathlib.Core.Bool.{Bool, true, false, cond, not, _&&_, _||_}
+use mathlib.Core.Bool.{Bool, cond, not, _&&_, _||_}
 use mathlib.Core.List.{List, [], _∷_, _++_, tail}
 use lib.Dec.{leb, ltb, eqb}
 use lib.ListN.{getD, set}
@@ -109,7 +109,7 @@ chooses tree why p rows =
 unfoldable pub up : ℕ → Tree → Why → ℕ → Rows → Rows
 up zero tree why r rows = rows
 up (suc d) tree why r rows =
-    elim (has-head rows (parent tree r)) [ true ↦ rows | false ↦ up d tree why (parent tree r) (chooses tree why (parent tree r) rows) ]
+    cond (has-head rows (parent tree r)) rows (up d tree why (parent tree r) (chooses tree why (parent tree r) rows))
 
 -- ── the path from a row up to the root ──
 
@@ -175,8 +175,8 @@ departure tree box =
     let k = head-class (box .rows) 0 in
     let length = head-length (box .rows) 0 in
     let later = tail (queue-of box k) in
-    let idle = leaves tree k (box .rows) in
-    let now = goes-on tree k later idle in
+    let left = leaves tree k (box .rows) in
+    let now = goes-on tree k later left in
     record {
       rows = now;
       bytes = along tree (λ r n. n + length) k (box .bytes);
@@ -184,7 +184,7 @@ departure tree box =
       since = box .since;
       parent-since = box .parent-since;
       queues = set (box .queues) k later;
-      order = box .order ++ sent idle now;
+      order = box .order ++ sent left now;
     }
 
 -- the event at a place

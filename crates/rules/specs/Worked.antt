@@ -4,10 +4,7 @@ use Prim.Native.Nat.{ℕ, _+_, _*_}
 use mathlib.Core.List.{List, [], _∷_, _++_, map}
 use lib.ListN.{length, getD, take, drop, replicate}
 use lib.IntN.{ℤ, pos, negsuc}
-use Rattle.rules.specs.declared.Answer.{Answer}
 use Rattle.rules.specs.Limits.{report-words}
-use Rattle.rules.specs.Classes.{Table}
-use Rattle.rules.specs.Events.{Events}
 use Rattle.rules.specs.Outcome.{Lent, Outcome}
 
 -- ── inputs ──

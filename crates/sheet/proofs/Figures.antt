@@ -37,7 +37,7 @@ module _ (q : Ratio) where
   unfolding lowest
   denominator-whole = div-mul-cancel (divisor q) (greatest-divides (q .numerator) (q .denominator) (q .denominator) .1)
 
-  pub numerator-some : 0 < q .numerator → 0 < lowest q .numerator
+  numerator-some : 0 < q .numerator → 0 < lowest q .numerator
   numerator-some = factor-some (lowest q .numerator) (divisor q) (q .numerator) numerator-whole
 
   pub denominator-some : 0 < q .denominator → 0 < lowest q .denominator
@@ -62,7 +62,7 @@ module _ (q : Ratio) where
       go (no too-large) = numerator-over (omega arith)
 
   -- what fits is in lowest terms
-  pub fitting-is : fitting q .fits ≡ true → fitting q ≡ figure (lowest q)
+  fitting-is : fitting q .fits ≡ true → fitting q ≡ figure (lowest q)
   fitting-is = go (decLt (q .numerator) limit) (decLt (q .denominator) limit)
     where
       go : Dec (q .numerator < limit) → Dec (q .denominator < limit) → fitting q .fits ≡ true → fitting q ≡ figure (lowest q)

@@ -10,7 +10,6 @@ use Rattle.rules.specs.Classes.{Tree, tree-of, parent, depth, share}
 use Rattle.rules.specs.Events.{Events, count}
 use Rattle.rules.specs.Outcome.{Lent, outcome}
 use Rattle.rules.specs.Promise.{Ratio, step-up, climbed, number, largest, bytes-for, finished-in, Backlogged}
-use Rattle.laws.specs.Sound.{Sender}
 use Rattle.laws.proofs.Run.{sent, share-is-a-number}
 use Rattle.sheet.specs.declared.Figure.{Figure}
 use Rattle.sheet.specs.Paper.{over, worked, rounded-up}
@@ -73,7 +72,7 @@ module _ (lent : Lent) (done : outcome lent .answer .number ≡ 0) where
   abbrev bytes-in : ℕ → ℕ → ℕ → ℕ
   bytes-in r a b = bytes-for tree events r (finished-in events (sent lent) a b)
 
-  -- the figure for class k, worked up to the whole line
+  -- the figure for row k, worked up to the whole line
   abbrev line-figure : ℕ → ℕ → ℕ → Figure
   line-figure most k own = worked (depth tree k) (tree .parents) (tree .shares) most k own
 
@@ -81,22 +80,22 @@ module _ (lent : Lent) (done : outcome lent .answer .number ≡ 0) where
   unfolding number
   line-stands k most own = same (depth tree k) tree most k own
 
-  -- for any class that holds a packet after each event of a stretch, any packet length that no packet is above, and any bytes that
-  -- the class's own are not above: what the whole line finished is at most the figure
+  -- for any row that holds a packet after each event of a stretch, any packet length that no packet is above, and any bytes that the
+  -- row's own are not above: what the whole line finished is at most the figure
   pub line-below-exactly :
-      (k a b most own : ℕ) → Sender tree k → a ≤ b → b ≤ count events → Backlogged tree events (sent lent) k a b → largest events (count events) ≤ most
+      (k a b most own : ℕ) → k < tree .rows → a ≤ b → b ≤ count events → Backlogged tree events (sent lent) k a b → largest events (count events) ≤ most
       → bytes-in k a b ≤ own → line-figure most k own .fits ≡ true → bytes-in 0 a b * line-figure most k own .denominator ≤ line-figure most k own .numerator
-  line-below-exactly k a b most own sender order within backlogged packets bytes fits =
-      let promised = share-is-a-number lent done k a b sender order within backlogged in
+  line-below-exactly k a b most own inside order within backlogged packets bytes fits =
+      let promised = share-is-a-number lent done k a b inside order within backlogged in
       let grown = number-no-less tree (largest events (count events)) most k (bytes-in k a b) own packets bytes in
       below-figure (bytes-in 0 a b) (line-figure most k own) (number tree most k own) (line-stands k most own fits)
       (rw (← grown .denominators) (le-trans promised (grown .numerators)))
 
   -- the same in whole bytes
   pub line-below :
-      (k a b most own : ℕ) → Sender tree k → a ≤ b → b ≤ count events → Backlogged tree events (sent lent) k a b → largest events (count events) ≤ most
+      (k a b most own : ℕ) → k < tree .rows → a ≤ b → b ≤ count events → Backlogged tree events (sent lent) k a b → largest events (count events) ≤ most
       → bytes-in k a b ≤ own → line-figure most k own .fits ≡ true
       → bytes-in 0 a b ≤ rounded-up (line-figure most k own .numerator) (line-figure most k own .denominator)
-  line-below k a b most own sender order within backlogged packets bytes fits =
+  line-below k a b most own inside order within backlogged packets bytes fits =
       below-rounded (bytes-in 0 a b) (line-figure most k own .numerator) (line-figure most k own .denominator)
-      (line-stands k most own fits .figure-some) (line-below-exactly k a b most own sender order within backlogged packets bytes fits)
+      (line-stands k most own fits .figure-some) (line-below-exactly k a b most own inside order within backlogged packets bytes fits)

@@ -2,7 +2,7 @@
 -- Assumes nothing.
 use Prim.Native.Nat.{ℕ, zero, suc, _≤_, _<_}
 use mathlib.Core.Path.{_≡_, refl, sym, _∙_, ap}
-use mathlib.Core.Bool.{Bool, true, false}
+use mathlib.Core.Bool.{Bool, true, false, cond}
 use mathlib.Core.Logic.{_≢_}
 use mathlib.Core.List.{List, [], _∷_}
 use native.Mathlib.Nat.{le-refl}
@@ -53,6 +53,6 @@ unfolding place-of
 place-within x [] = le-refl 0
 place-within x (y ∷ ys) = go (eqb x y) (place-within x ys)
   where
-    go : (b : Bool) → place-of x ys ≤ length ys → (elim b [ true ↦ 0 | false ↦ suc (place-of x ys) ]) ≤ suc (length ys)
+    go : (b : Bool) → place-of x ys ≤ length ys → cond b 0 (suc (place-of x ys)) ≤ suc (length ys)
     go true rest = omega arith
     go false rest = omega arith

@@ -5,7 +5,7 @@ use mathlib.Core.List.{[]}
 use native.Mathlib.Omega.{arith}
 use borrow.Author.Needs.{needs}
 use Rattle.rules.specs.Box.{Rows, head-class, head-length}
-use Rattle.laws.proofs.OneEvent.{left}
+use Rattle.laws.specs.Line.{left}
 use Rattle.events.proofs.Leaving.{left-small, departure-rows}
 use Rattle.events.proofs.depart.Statement.{statement}
 use Rattle.events.proofs.depart.Tie as tie

@@ -1,6 +1,6 @@
 -- `shares::charge` meets its contract: both factors have 32 bits, so the product fits.
 -- Assumes nothing.
-use Prim.Native.Nat.{_*_, _≤_}
+use Prim.Native.Nat.{_≤_}
 use native.Mathlib.Nat.{mul-le-mul-left}
 use native.Mathlib.Omega.{arith}
 use borrow.Author.Needs.{needs}

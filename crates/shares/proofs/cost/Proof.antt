@@ -1,6 +1,5 @@
 -- `shares::cost` meets its contract: a share of 0 divides to 0.
 -- Assumes nothing.
-use mathlib.Core.Path.{_≡_, refl}
 use borrow.Author.Needs.{needs}
 use Rattle.rules.specs.Shares.{cost}
 use Rattle.shares.proofs.cost.Statement.{statement}

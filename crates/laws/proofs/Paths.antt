@@ -1,9 +1,9 @@
--- The way from a row up to the root: which rows are on it, and what changing a list along it does.
+-- The path from a row up to the root: which rows are on it, and what changing a list along it does.
 -- Assumes nothing.
 use Prim.Native.Nat.{ℕ, zero, suc, _≤_, _<_}
 use mathlib.Core.Path.{_≡_, refl, sym, _∙_, ap, subst}
 use mathlib.Core.Logic.{_≢_, _⊎_, inl, inr, ⊎-elim}
-use mathlib.Core.Bool.{Bool, true, false, cond, not, _||_, false≢true, true≢false, and-eq-true-iff, and-false, or-true}
+use mathlib.Core.Bool.{Bool, true, false, cond, not, _||_, true≢false, and-eq-true-iff, and-false, or-true}
 use mathlib.Mathlib.Data.Bool.Basic.{eq-false-of-not-eq-true as refuted}
 use mathlib.Core.List.{List}
 use native.Mathlib.Decide.{ℕ-discrete}
@@ -15,7 +15,7 @@ use borrow.Author.Tests.{ltb-true, lt-ltb, eqb-true, eq-eqb, ne-eqb}
 use Rattle.rules.specs.Limits.{most-rows}
 use Rattle.rules.specs.Classes.{Tree, parent, depth, child, has-child, sends}
 use Rattle.rules.specs.Steps.{along, on-path}
-use Rattle.rules.specs.Promise.{within, on-way}
+use Rattle.rules.specs.Promise.{within, path-has}
 use Rattle.laws.specs.Sound.{Sound, Kid, Inner, Sender}
 
 -- which of two tests holds
@@ -37,7 +37,7 @@ child-kid tree p j inside is =
     record { positive = ltb-true 0 j (both .0); inside = inside; under = eqb-true (parent tree j) p (both .1) }
 
 -- a child below n is found
-has-kid : (tree : Tree) (p j n : ℕ) → j < n → child tree p j ≡ true → has-child tree p n ≡ true
+pub has-kid : (tree : Tree) (p j n : ℕ) → j < n → child tree p j ≡ true → has-child tree p n ≡ true
 unfolding has-child
 has-kid tree p j zero below is = absurd (omega arith)
 has-kid tree p j (suc n) below is = go (ℕ-discrete j n) (has-kid tree p j n)
@@ -46,18 +46,6 @@ has-kid tree p j (suc n) below is = go (ℕ-discrete j n) (has-kid tree p j n)
     go (yes e) earlier = rw (← e, is) (or-true (has-child tree p j))
     go (no other) earlier = rw (earlier (omega arith) is)
 
--- and what is found is a child below n
-kid-found : (tree : Tree) (p n : ℕ) → has-child tree p n ≡ true → (j : ℕ) × (j < n) × (child tree p j ≡ true)
-unfolding has-child
-kid-found tree p zero e = absurd (false≢true e)
-kid-found tree p (suc n) e = go (either (has-child tree p n) (child tree p n) e) (kid-found tree p n)
-  where
-    go :
-        (has-child tree p n ≡ true) ⊎ (child tree p n ≡ true) → (has-child tree p n ≡ true → (j : ℕ) × (j < n) × (child tree p j ≡ true))
-        → (j : ℕ) × (j < suc n) × (child tree p j ≡ true)
-    go (inl before) earlier = let found = earlier before in (found .0, (omega (arith, found .1)), found .2)
-    go (inr last) earlier = (n, omega arith, last)
-
 -- a row that passes the test for a sending class is one: it is not the root
 pub sends-sender : (tree : Tree) (k : ℕ) → k < tree .rows → sends tree k ≡ true → Sender tree k
 unfolding sends
@@ -65,18 +53,10 @@ sends-sender tree k inside is =
     let both = and-eq-true-iff (ltb 0 k) (not (has-child tree k (tree .rows))) .0 is in
     record { positive = ltb-true 0 k (both .0); inside = inside; sender = is }
 
--- a row with a child is no sending class; an inner row is the root or has a child
-pub parent-inner : (tree : Tree) (p j : ℕ) → Kid tree p j → sends tree p ≡ false
+-- a row with a child is no sending class
+parent-inner : (tree : Tree) (p j : ℕ) → Kid tree p j → sends tree p ≡ false
 unfolding sends
 parent-inner tree p j kid = rw (has-kid tree p j (tree .rows) (kid .inside) (kid-child tree p j kid)) (and-false (ltb 0 p))
-
-pub inner-kid : (tree : Tree) (p : ℕ) → Inner tree p → 0 < p → (j : ℕ) × Kid tree p j
-unfolding sends
-inner-kid tree p inner positive = go (has-child tree p (tree .rows)) refl
-  where
-    go : (b : Bool) → has-child tree p (tree .rows) ≡ b → (j : ℕ) × Kid tree p j
-    go true e = let found = kid-found tree p (tree .rows) e in (found .0, child-kid tree p (found .0) (found .1) (found .2))
-    go false e = absurd (true≢false (rw (lt-ltb 0 p positive, e) at (inner .no-sender)))
 
 module _ (tree : Tree) (sound : Sound tree) where
   -- ── rows and their parents ──
@@ -113,7 +93,7 @@ module _ (tree : Tree) (sound : Sound tree) where
   below-root zero d level = let root = sound .root-depth in absurd (omega arith)
   below-root (suc x) d level = omega arith
 
-  -- what holds of the root, and of a row if of its parent, holds of every row: the way up ends because the depth falls
+  -- what holds of the root, and of a row if of its parent, holds of every row: the path ends because the depth falls
   climb-from :
       (P : ℕ → Type 0) → P 0 → ((x : ℕ) → 0 < x → x < tree .rows → P (parent tree x) → P x)
       → (d x : ℕ) → x < tree .rows → depth tree x ≡ d → P x
@@ -126,22 +106,22 @@ module _ (tree : Tree) (sound : Sound tree) where
   pub climb : (P : ℕ → Type 0) → P 0 → ((x : ℕ) → 0 < x → x < tree .rows → P (parent tree x) → P x) → (x : ℕ) → x < tree .rows → P x
   climb P root next x inside = climb-from P root next (depth tree x) x inside refl
 
-  -- ── rows on a way ──
+  -- ── rows on a path ──
 
-  -- what is on the way, from the root and from any other row
-  pub within-root : (r : ℕ) → within tree r 0 ≡ eqb 0 r
-  unfolding within on-way
+  -- what is on the path, from the root and from any other row
+  within-root : (r : ℕ) → within tree r 0 ≡ eqb 0 r
+  unfolding within path-has
   within-root r = rw (sound .root-depth)
 
-  pub within-next : (r x : ℕ) → 0 < x → x < tree .rows → within tree r x ≡ (eqb x r || within tree r (parent tree x))
-  unfolding within on-way
+  within-next : (r x : ℕ) → 0 < x → x < tree .rows → within tree r x ≡ (eqb x r || within tree r (parent tree x))
+  unfolding within path-has
   within-next r x positive inside = rw (sound .deeper x positive inside)
 
   pub self-within : (k : ℕ) → within tree k k ≡ true
-  unfolding within on-way
+  unfolding within path-has
   self-within k = starts (depth tree k)
     where
-      starts : (d : ℕ) → on-way d tree k k ≡ true
+      starts : (d : ℕ) → path-has d tree k k ≡ true
       starts zero = eq-eqb k k refl
       starts (suc d) = rw (eq-eqb k k refl)
 
@@ -157,7 +137,7 @@ module _ (tree : Tree) (sound : Sound tree) where
   pub only-root : (r : ℕ) → within tree r 0 ≡ true → r ≡ 0
   only-root r on = sym (eqb-true 0 r (sym (within-root r) ∙ on))
 
-  -- a row on the way is no deeper
+  -- a row on the path is no deeper
   pub no-deeper : (r x : ℕ) → x < tree .rows → within tree r x ≡ true → depth tree r ≤ depth tree x
   no-deeper r = climb (λ x. within tree r x ≡ true → depth tree r ≤ depth tree x) root next
     where
@@ -195,7 +175,7 @@ module _ (tree : Tree) (sound : Sound tree) where
           further p x positive inside
           (⊎-elim (λ (here : x ≡ c). rw (ap (parent tree) here ∙ kid .under) (self-within p)) above (nearer c x positive inside on))
 
-  -- below p, on the way to x, stands one child of p
+  -- below p, on the path to x, stands one child of p
   pub child-within : (p x : ℕ) → x < tree .rows → within tree p x ≡ true → p ≢ x → (c : ℕ) × Kid tree p c × (within tree c x ≡ true)
   child-within p = climb (λ x. within tree p x ≡ true → p ≢ x → (c : ℕ) × Kid tree p c × (within tree c x ≡ true)) root next
     where
@@ -221,7 +201,7 @@ module _ (tree : Tree) (sound : Sound tree) where
       root : within tree c 0 ≡ true → within tree e 0 ≡ true → c ≡ e
       root on-c on-e = only-root c on-c ∙ sym (only-root e on-e)
 
-      -- one of the two is x itself, the other on the way from x's parent
+      -- one of the two is x itself, the other on the path from x's parent
       apart : (i j x : ℕ) → Kid tree p i → Kid tree p j → x ≡ i → within tree j (parent tree x) ≡ true → ⊥
       apart i j x kid-i kid-j here above =
           true≢false (sym above ∙ rw (ap (parent tree) here ∙ kid-i .under) (not-below p j kid-j))
@@ -247,9 +227,9 @@ module _ (tree : Tree) (sound : Sound tree) where
           let below = child-within k x inside on other in
           absurd (true≢false (sym (sender .sender) ∙ parent-inner tree k (below .0) (below .1)))
 
-  -- ── a list changed along a way ──
+  -- ── a list changed along a path ──
 
-  -- changing a list along the way from k changes the entries of the rows on it, each once
+  -- changing a list along the path from k changes the entries of the rows on it, each once
   pub along-length : (f : ℕ → ℕ → ℕ) (k : ℕ) (xs : List ℕ) → length (along tree f k xs) ≡ length xs
   unfolding along on-path
   along-length f k xs = lengths (depth tree k) k xs
