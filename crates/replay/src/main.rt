@@ -1,19 +1,14 @@
 // replay TABLE EVENTS: reads a class table and a list of events, replays them, and prints the answer, the order and the report with
 // the lags; or says what cannot be read; or, to standard error, what a refusal names and how to mend it.
-mod names;
-mod nearest;
-mod output;
-mod reading;
-mod refusals;
 mod results;
-mod unreadable;
 
+use files::first;
+use files::load;
 use libc::STDERR_FILENO;
 use libc::STDOUT_FILENO;
 use output::flush;
 use output::onto;
 use output::put_text;
-use reading::load;
 use rules::Answer;
 
 // A column has room for one row more than a run takes, so that it refuses a longer table.
@@ -132,7 +127,7 @@ fn explain<'a>(
         return;
     }
     let mut out = [0u8; 8192];
-    let sink = refusals::sentence(
+    let sink = sentences::sentence(
         &mut out,
         onto(STDERR_FILENO),
         answer,
@@ -145,12 +140,4 @@ fn explain<'a>(
         lengths,
     );
     flush(&mut out, sink);
-}
-
-// The first words, or all where there are no more.
-fn first<'a>(words: &'a [u32], count: u64) -> &'a [u32] {
-    if count < words.len() as u64 {
-        return &words[..count as usize];
-    }
-    words
 }

@@ -1,14 +1,15 @@
 // The answer and the results as text.
-use crate::output::Sink;
-use crate::output::flush;
-use crate::output::onto;
-use crate::output::put_byte;
-use crate::output::put_number;
-use crate::output::put_signed;
-use crate::output::put_text;
-use crate::output::put_word;
 use libc::STDOUT_FILENO;
+use output::Sink;
+use output::flush;
+use output::onto;
+use output::put_byte;
+use output::put_number;
+use output::put_signed;
+use output::put_text;
+use output::put_then;
 use rules::Answer;
+use sentences::put_answer;
 
 // Prints the answer and, of a done run, the results, and answers whether all of it was written.
 pub fn print<'a>(
@@ -28,20 +29,6 @@ pub fn print<'a>(
     let sink = put_rows(&mut out, sink, identifiers, report, lags);
     let done = flush(&mut out, sink);
     done.good
-}
-
-fn put_answer(out: &mut [u8; 8192], sink: Sink, answer: Answer) -> Sink {
-    let sink = put_text(out, sink, b"answer,place,second,count\n");
-    let sink = put_then(out, sink, answer.number, 44);
-    let sink = put_then(out, sink, answer.place, 44);
-    let sink = put_then(out, sink, answer.second, 44);
-    put_then(out, sink, answer.count, 10)
-}
-
-// A number, and the byte after it.
-fn put_then(out: &mut [u8; 8192], sink: Sink, n: u32, byte: u8) -> Sink {
-    let sink = put_word(out, sink, n);
-    put_byte(out, sink, byte)
 }
 
 fn put_order(out: &mut [u8; 8192], sink: Sink, order: &[u32], count: u32) -> Sink {

@@ -3,11 +3,13 @@
 use Prim.Native.Nat.{ℕ}
 use mathlib.Core.Path.{_≡_, sym, _∙_}
 use mathlib.Core.Bool.{Bool}
+use mathlib.Core.List.{List}
 use lib.IntN.{ℤ, natAbs}
 use Rattle.text.specs.declared.Kind.{Kind}
+use Rattle.text.specs.declared.Field.{Field}
 use Rattle.text.specs.declared.Found.{Found}
 use Rattle.text.specs.declared.Scan.{Scan}
-use Rattle.text.specs.Reading.{unread, after, at-end, wrong}
+use Rattle.text.specs.Reading.{field-of, unread, after, at-end, wrong}
 
 -- what is the same as one thing is the same
 one : {A : Type 0} (what a b : A) → a ≡ what → b ≡ what → a ≡ b
@@ -27,3 +29,6 @@ one-fault found = one (wrong found)
 
 pub one-magnitude : (n : ℤ) (a b : ℕ) → a ≡ natAbs n → b ≡ natAbs n → a ≡ b
 one-magnitude n = one (natAbs n)
+
+pub one-number : (bytes : List ℕ) (a b : Field) → a ≡ field-of bytes → b ≡ field-of bytes → a ≡ b
+one-number bytes = one (field-of bytes)

@@ -64,6 +64,15 @@ with-digit Other d = Other
 unfoldable pub with-byte : Field → ℕ → Field
 with-byte field byte = cond (leb digit-zero byte && leb byte digit-nine) (with-digit field (byte - digit-zero)) Other
 
+-- a field with some bytes more, one after the other
+unfoldable pub with-bytes : Field → List ℕ → Field
+with-bytes field [] = field
+with-bytes field (byte ∷ bytes) = with-bytes (with-byte field byte) bytes
+
+-- the field that all these bytes make
+unfoldable pub field-of : List ℕ → Field
+field-of bytes = with-bytes Empty bytes
+
 -- ── a line ──
 
 abbrev pub empty-line : Line

@@ -6,6 +6,19 @@ use crate::Field;
 // The largest number that a field may hold.
 const MOST: u64 = 4294967295;
 
+// The field that all these bytes make.
+pub fn number(bytes: &[u8]) -> Field
+    ensures { λ r. ⌜ r ≡ reading.field-of (now (bytes .entry)) ⌝ }
+{
+    let mut field = Field::Empty;
+    let mut i = 0;
+    while i < bytes.len() {
+        field = with_byte(field, bytes[i]);
+        i += 1;
+    }
+    field
+}
+
 // The field with one byte more.
 pub fn with_byte(field: Field, byte: u8) -> Field
     ensures { λ r. ⌜ r ≡ reading.with-byte field byte ⌝ }

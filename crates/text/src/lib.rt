@@ -10,6 +10,7 @@ pub use bytes::begin;
 pub use bytes::feed;
 pub use bytes::finish;
 pub use bytes::wrong;
+pub use digits::number;
 pub use signed::magnitude;
 
 // Which of the two files is read.

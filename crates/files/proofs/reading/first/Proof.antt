@@ -1,0 +1,21 @@
+-- `first` meets its contract: what is lent is within the words, by its test.
+-- Assumes nothing.
+use mathlib.Core.Path.{_≡_, sym}
+use native.Mathlib.Omega.{arith}
+use lib.ListN.{length-take}
+use lib.Seq.{take-all}
+use borrow.Author.Needs.{needs}
+use Rattle.files.proofs.reading.first.Statement.{statement}
+use Rattle.files.proofs.reading.first.Tie as tie
+
+slice-aggregate-result : tie.Need-slice-aggregate-result
+slice-aggregate-result c = simp length-take (omega arith)
+
+returns : tie.Need-returns
+returns c = search needs
+
+returns-2 : tie.Need-returns-2
+returns-2 c = sym (take-all _ _ (c .if1 .left))
+
+pub first-spec : {M : Type 1} → statement M
+first-spec = tie.close (tie.spec slice-aggregate-result returns returns-2)

@@ -1,0 +1,184 @@
+// The sheet as text.
+ghost use mathlib.Core.Path.{_≡_};
+ghost use Prim.Native.Nat.{_*_};
+use libc::STDOUT_FILENO;
+use output::Sink;
+use output::flush;
+use output::onto;
+use output::put_byte;
+use output::put_named;
+use output::put_number;
+use output::put_text;
+use sentences::word;
+use sheet::Figure;
+
+// Prints the sheet of each sending class, in row order.
+pub fn print<'a>(
+    largest: u32,
+    own: u32,
+    identifiers: &'a [u32],
+    parents: &'a [u32],
+    depths: &'a [u32],
+    shares: &'a [u32],
+    senders: &'a [bool; 256],
+) {
+    let mut out = [0u8; 8192];
+    let mut sink = put_heading(&mut out, onto(STDOUT_FILENO), largest, own);
+    let mut row = 0;
+    while row < 256 {
+        sink = put_row(
+            &mut out,
+            sink,
+            senders[row],
+            largest,
+            own,
+            identifiers,
+            parents,
+            depths,
+            shares,
+            row as u32,
+        );
+        row += 1;
+    }
+    flush(&mut out, sink);
+}
+
+fn put_heading(out: &mut [u8; 8192], sink: Sink, largest: u32, own: u32) -> Sink {
+    let sink = put_named(out, sink, b"own bytes ", own);
+    let sink = put_named(out, sink, b", largest packet ", largest);
+    let sink = put_text(out, sink, b", three packets ");
+    let sink = put_number(out, sink, three(largest));
+    put_byte(out, sink, 10)
+}
+
+fn three(largest: u32) -> u64
+    ensures { λ r. ⌜ r ≡ 3 * largest ⌝ }
+{
+    3 * largest as u64
+}
+
+// Of a sending class its own bytes and its steps; of any other row nothing.
+fn put_row<'a>(
+    out: &mut [u8; 8192],
+    sink: Sink,
+    sends: bool,
+    largest: u32,
+    own: u32,
+    identifiers: &'a [u32],
+    parents: &'a [u32],
+    depths: &'a [u32],
+    shares: &'a [u32],
+    row: u32,
+) -> Sink {
+    if !sends {
+        return sink;
+    }
+    let sink = put_named(out, sink, b"\nclass ", word(identifiers, row));
+    let sink = put_named(out, sink, b" (row ", row);
+    let sink = put_named(out, sink, b")\n  own bytes: ", own);
+    let sink = put_byte(out, sink, 10);
+    let depth = word(depths, row);
+    put_steps(
+        out,
+        sink,
+        largest,
+        own,
+        identifiers,
+        parents,
+        shares,
+        row,
+        depth,
+    )
+}
+
+// A line for each row from the class up to the root's child, as far as the working fits, and what comes of it.
+fn put_steps<'a>(
+    out: &mut [u8; 8192],
+    sink: Sink,
+    largest: u32,
+    own: u32,
+    identifiers: &'a [u32],
+    parents: &'a [u32],
+    shares: &'a [u32],
+    row: u32,
+    depth: u32,
+) -> Sink {
+    let mut sink = sink;
+    let mut figure = sheet::after(0, parents, shares, row, largest, own);
+    let mut at = row;
+    let mut step = 0;
+    while step < depth {
+        step += 1;
+        let next = sheet::after(step, parents, shares, row, largest, own);
+        sink = put_step(
+            out,
+            sink,
+            word(identifiers, at),
+            figure,
+            largest,
+            word(shares, at),
+            next,
+        );
+        if !next.fits {
+            return sink;
+        }
+        figure = next;
+        at = word(parents, at);
+    }
+    put_last(out, sink, figure)
+}
+
+// One step up: a row's class, the figure before, three packets, the row's share, the figure after.
+fn put_step(
+    out: &mut [u8; 8192],
+    sink: Sink,
+    class: u32,
+    before: Figure,
+    largest: u32,
+    share: u32,
+    after: Figure,
+) -> Sink {
+    let sink = put_named(out, sink, b"  class ", class);
+    let sink = put_text(out, sink, b": (");
+    let sink = put_figure(out, sink, before);
+    let sink = put_text(out, sink, b" + ");
+    let sink = put_number(out, sink, three(largest));
+    let sink = put_named(out, sink, b") * 840 / ", share);
+    let sink = put_text(out, sink, b" = ");
+    put_result(out, sink, after)
+}
+
+// The figure after a step, or that there is none.
+fn put_result(out: &mut [u8; 8192], sink: Sink, figure: Figure) -> Sink {
+    if figure.fits {
+        let sink = put_figure(out, sink, figure);
+        return put_byte(out, sink, 10);
+    }
+    let sink = put_text(out, sink, b"outgrown\n");
+    put_text(
+        out,
+        sink,
+        b"  the line: no number, since the working outgrows 64 bits\n",
+    )
+}
+
+fn put_figure(out: &mut [u8; 8192], sink: Sink, figure: Figure) -> Sink {
+    let sink = put_number(out, sink, figure.numerator);
+    if figure.denominator == 1 {
+        return sink;
+    }
+    let sink = put_byte(out, sink, 47);
+    put_number(out, sink, figure.denominator)
+}
+
+fn put_last(out: &mut [u8; 8192], sink: Sink, figure: Figure) -> Sink {
+    let sink = put_text(out, sink, b"  the line finishes at most ");
+    let sink = put_figure(out, sink, figure);
+    let sink = put_text(out, sink, b" bytes");
+    if figure.denominator == 1 {
+        return put_byte(out, sink, 10);
+    }
+    let sink = put_text(out, sink, b", rounded up ");
+    let sink = put_number(out, sink, sheet::whole_bytes(figure));
+    put_byte(out, sink, 10)
+}

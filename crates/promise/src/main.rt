@@ -1,0 +1,127 @@
+// promise TABLE LARGEST [OWN]: reads a class table and prints, for each sending class, the sheet of its share: step by step up the
+// tree, what the line can finish at most while the class finishes OWN bytes, in a day whose largest packet has LARGEST bytes. Or it
+// says what cannot be read, or, to standard error, what a refusal names and how to mend it.
+mod asked;
+mod lines;
+
+use asked::Asked;
+use files::first;
+use files::load;
+use libc::STDERR_FILENO;
+use libc::STDOUT_FILENO;
+use output::flush;
+use output::onto;
+use output::put_text;
+use rules::Answer;
+use rules::Refusal;
+use text::Field;
+use text::Kind;
+
+fn main() {
+    let count = os::arg_count();
+    if count < 3 {
+        usage();
+        return;
+    }
+    if 4 < count {
+        usage();
+        return;
+    }
+    let largest = argument(2);
+    let own = if count == 4 { argument(3) } else { largest };
+    let asked = asked::of(largest, own);
+    if let Asked::Numbers { largest, own } = asked {
+        with_numbers(largest, own);
+        return;
+    }
+    asked::complain(asked);
+}
+
+fn usage() {
+    let mut out = [0u8; 8192];
+    let sink = put_text(
+        &mut out,
+        onto(STDOUT_FILENO),
+        b"cannot read: give a class table and the largest packet, promise TABLE LARGEST [OWN]\n",
+    );
+    flush(&mut out, sink);
+}
+
+// An argument as a number. The longest that the system passes has 131,071 bytes.
+fn argument(place: usize) -> Field {
+    let mut word = [0u8; 131072];
+    let length = os::arg(place, &mut word);
+    text::number(&word[..length])
+}
+
+// Reads the table and goes on. A column has room for one row more than a table has, so that a longer one is refused.
+fn with_numbers(largest: u32, own: u32) {
+    let mut identifiers = [0u32; 257];
+    let mut parents = [0u32; 257];
+    let mut shares = [0u32; 257];
+    let table = load(1, Kind::Table, &mut identifiers, &mut parents, &mut shares);
+    if table.good {
+        with_table(
+            largest,
+            own,
+            table.rows,
+            first(&identifiers, table.rows),
+            first(&parents, table.rows),
+            first(&shares, table.rows),
+        );
+    }
+}
+
+// Checks the table, and prints the sheet or why there is none. The count of rows is that of the file, of which the slices may have
+// less.
+fn with_table<'a>(
+    largest: u32,
+    own: u32,
+    rows: u64,
+    identifiers: &'a [u32],
+    parents: &'a [u32],
+    shares: &'a [u32],
+) {
+    let reading = tables::read_table(identifiers, parents, shares);
+    let refusal = reading.refusal;
+    if refusal.number != 0 {
+        refused(refusal, rows, identifiers, parents, shares);
+        return;
+    }
+    let above = reading.parents;
+    let depths = reading.depths;
+    let parts = reading.shares;
+    let senders = reading.senders;
+    lines::print(largest, own, identifiers, &above, &depths, &parts, &senders);
+}
+
+// The answer of a run with this table and, once that is written, the refusal as a sentence to standard error.
+fn refused<'a>(
+    refusal: Refusal,
+    rows: u64,
+    identifiers: &'a [u32],
+    parents: &'a [u32],
+    shares: &'a [u32],
+) {
+    let mut out = [0u8; 8192];
+    let answer = Answer {
+        number: refusal.number,
+        place: refusal.place,
+        second: refusal.second,
+        count: 0,
+    };
+    let sink = sentences::put_answer(&mut out, onto(STDOUT_FILENO), answer);
+    let answered = flush(&mut out, sink);
+    if answered.good {
+        let sink = sentences::table_sentence(
+            &mut out,
+            onto(STDERR_FILENO),
+            answer,
+            rows,
+            identifiers,
+            parents,
+            shares,
+        );
+        flush(&mut out, sink);
+    }
+}

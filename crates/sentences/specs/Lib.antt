@@ -1,0 +1,3 @@
+-- What a sentence names. A reader must believe these definitions; nothing here is code.
+pub mod Nearest
+pub mod Named
