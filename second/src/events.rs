@@ -2,7 +2,7 @@
 
 use crate::table::Table;
 
-const MOST_BYTES: u32 = 2048;
+pub const MOST_BYTES: u32 = 2048;
 
 pub enum Event {
     /// A packet of `length` bytes for the sending class in `row`.

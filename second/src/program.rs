@@ -1,7 +1,10 @@
-//! The program from its arguments to the bytes it prints.
+//! The program `second` from its arguments to the bytes it prints.
 
+use std::env;
 use std::ffi::{OsStr, OsString};
 use std::fs;
+use std::io::{self, Write};
+use std::process::ExitCode;
 
 use crate::print::{answer_text, results_text};
 use crate::report::REPORT_WIDTH;
@@ -17,15 +20,33 @@ pub struct Response {
     pub error: Vec<u8>,
 }
 
-/// Answers the arguments that follow the program's name.
-pub fn respond(arguments: &[OsString]) -> Response {
-    match read_and_replay(arguments) {
-        Ok(response) => response,
-        Err(output) => Response {
+impl Response {
+    /// All of it on standard output.
+    pub(crate) fn plain(output: Vec<u8>) -> Response {
+        Response {
             output,
             error: Vec::new(),
-        },
+        }
     }
+}
+
+/// Prints what a program answers to the arguments it was started with.
+pub fn answer(respond: fn(&[OsString]) -> Response) -> ExitCode {
+    let arguments: Vec<OsString> = env::args_os().skip(1).collect();
+    let response = respond(&arguments);
+    let printed = io::stdout()
+        .write_all(&response.output)
+        .and_then(|()| io::stdout().flush())
+        .and_then(|()| io::stderr().write_all(&response.error));
+    match printed {
+        Ok(()) => ExitCode::SUCCESS,
+        Err(_) => ExitCode::FAILURE,
+    }
+}
+
+/// Answers the arguments that follow the program's name.
+pub fn respond(arguments: &[OsString]) -> Response {
+    read_and_replay(arguments).unwrap_or_else(Response::plain)
 }
 
 /// The error is the line that says what cannot be read.
@@ -35,18 +56,30 @@ fn read_and_replay(arguments: &[OsString]) -> Result<Response, Vec<u8>> {
             "cannot read: give a class table and an event list, second TABLE EVENTS\n".to_string();
         return Err(line.into_bytes());
     };
-    let table = read_file(table_file, TABLE_HEADING)?;
+    let table = read_table(table_file)?;
     let events = read_file(event_file, EVENT_HEADING)?;
-    let table = TableSlices {
-        identifiers: &table[0],
-        parents: &table[1],
-        shares: &table[2],
-    };
     let events = EventSlices {
         classes: &events[0],
         lengths: &events[1],
     };
-    Ok(replay(table, events))
+    Ok(replay(table.slices(), events))
+}
+
+/// The columns of a table file.
+pub(crate) struct TableColumns(Vec<Vec<u32>>);
+
+impl TableColumns {
+    pub(crate) fn slices(&self) -> TableSlices<'_> {
+        TableSlices {
+            identifiers: &self.0[0],
+            parents: &self.0[1],
+            shares: &self.0[2],
+        }
+    }
+}
+
+pub(crate) fn read_table(file: &OsStr) -> Result<TableColumns, Vec<u8>> {
+    read_file(file, TABLE_HEADING).map(TableColumns)
 }
 
 fn read_file(file: &OsStr, heading: &str) -> Result<Vec<Vec<u32>>, Vec<u8>> {
@@ -67,7 +100,7 @@ fn cannot_read(file: &OsStr, rest: &str) -> Vec<u8> {
     .concat()
 }
 
-fn replay(table: TableSlices, events: EventSlices) -> Response {
+pub(crate) fn replay(table: TableSlices, events: EventSlices) -> Response {
     let rows = table.identifiers.len();
     let count = events.classes.len();
     let mut order = vec![0; count];

@@ -1,5 +1,7 @@
 //! Reading the two text files: a heading line, then lines of decimal numbers.
 
+use std::fmt;
+
 pub const TABLE_HEADING: &str = "identifier,parent,share";
 pub const EVENT_HEADING: &str = "class,length";
 
@@ -56,16 +58,32 @@ fn read_line(body: &[u8], columns: &mut [Vec<u32>]) -> Result<(), String> {
     Ok(())
 }
 
-fn read_number(field: &[u8]) -> Result<u32, &'static str> {
+/// Why some bytes are no 32-bit number.
+#[derive(Clone, Copy)]
+pub enum NotRead {
+    NotDecimal,
+    TooLarge,
+}
+
+impl fmt::Display for NotRead {
+    fn fmt(&self, to: &mut fmt::Formatter) -> fmt::Result {
+        to.write_str(match self {
+            NotRead::NotDecimal => "not a decimal number",
+            NotRead::TooLarge => "over 4294967295",
+        })
+    }
+}
+
+pub fn read_number(field: &[u8]) -> Result<u32, NotRead> {
     if field.is_empty() || !field.iter().all(u8::is_ascii_digit) {
-        return Err("not a decimal number");
+        return Err(NotRead::NotDecimal);
     }
     let mut number: u32 = 0;
     for digit in field {
         number = number
             .checked_mul(10)
             .and_then(|n| n.checked_add(u32::from(digit - b'0')))
-            .ok_or("over 4294967295")?;
+            .ok_or(NotRead::TooLarge)?;
     }
     Ok(number)
 }

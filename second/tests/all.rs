@@ -4,6 +4,7 @@
 mod common;
 mod limits;
 mod program;
+mod promise;
 mod properties;
 mod refusals;
 mod sentences;

@@ -2,6 +2,7 @@
 
 use std::collections::BTreeSet;
 
+use second::sheet::climb;
 use second::trials::Random;
 
 use crate::common::lists::{random_events, random_table};
@@ -182,15 +183,34 @@ fn lags_are_those_the_order_tells_and_never_over_the_bound() {
     });
 }
 
+/// The shares from a row up to the root's child.
+fn shares_above(rows: &[Row], row: usize) -> Vec<u32> {
+    let up = path(rows, rows[row].0).filter(|at| *at != 0);
+    up.map(|at| rows[at].2).collect()
+}
+
 /// The most the whole line can have sent while this class waited, as a
 /// numerator and a denominator, from the class's own bytes.
-fn most_of_the_line(rows: &[Row], class: usize, own: u64, largest: u64) -> (u128, u128) {
+fn most_of_the_line(shares: &[u32], own: u32, three: u64) -> (u128, u128) {
     let (mut numerator, mut denominator) = (u128::from(own), 1);
-    for row in path(rows, rows[class].0).filter(|row| *row != 0) {
-        numerator = (numerator + 3 * u128::from(largest) * denominator) * 840;
-        denominator *= u128::from(rows[row].2);
+    for share in shares {
+        numerator = (numerator + u128::from(three) * denominator) * 840;
+        denominator *= u128::from(*share);
     }
     (numerator, denominator)
+}
+
+/// The sheet's last figure is the same number, unless that is large unreduced.
+fn sheet_agrees(shares: &[u32], own: u32, three: u64) {
+    let (numerator, denominator) = most_of_the_line(shares, own, three);
+    let figures = climb(own, three, shares);
+    match figures.last().copied().flatten() {
+        Some(figure) => {
+            let [above, below] = [figure.numerator, figure.denominator].map(u128::from);
+            assert_eq!(above * denominator, numerator * below);
+        }
+        None => assert!(numerator > u128::from(u64::MAX)),
+    }
 }
 
 #[test]
@@ -203,12 +223,43 @@ fn a_waiting_class_gets_its_part_of_the_whole_line() {
                 continue;
             };
             let stretch = case.random.between(since, last)..last + 1;
-            let own = case.bytes(class, stretch.clone());
-            let line = u128::from(case.bytes(0, stretch));
-            let (numerator, denominator) = most_of_the_line(&case.rows, class, own, case.largest());
-            assert!(line * denominator <= numerator);
+            let own = case.bytes(class, stretch.clone()) as u32;
+            let line = case.bytes(0, stretch);
+            let shares = shares_above(&case.rows, class);
+            let three = 3 * case.largest();
+            let (numerator, denominator) = most_of_the_line(&shares, own, three);
+            assert!(u128::from(line) * denominator <= numerator);
+            let sheet = climb(own, three, &shares);
+            if let Some(figure) = sheet.last().copied().flatten() {
+                assert!(line <= figure.rounded_up());
+            }
+            sheet_agrees(&shares, own, three);
         }
     });
+}
+
+#[test]
+fn more_own_bytes_give_no_smaller_number() {
+    let mut random = Random::new(840, 0);
+    let mut grown = 0;
+    for _ in 0..3000 {
+        let rows = random_table(&mut random);
+        let shares = shares_above(&rows, random.between(1, rows.len() - 1));
+        let three = 3 * random.between(1, 2048) as u64;
+        let less = random.word() >> random.below(32);
+        let more = less.saturating_add(random.word() >> random.below(32));
+        sheet_agrees(&shares, less, three);
+        sheet_agrees(&shares, more, three);
+        let last = [less, more].map(|own| climb(own, three, &shares).last().copied().flatten());
+        if let [Some(one), Some(other)] = last {
+            let products = [(one, other), (other, one)]
+                .map(|(a, b)| u128::from(a.numerator) * u128::from(b.denominator));
+            assert!(products[0] <= products[1]);
+            assert_eq!(products[0] == products[1], less == more);
+            grown += 1;
+        }
+    }
+    assert!(grown > 2000);
 }
 
 #[test]

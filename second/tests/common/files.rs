@@ -1,4 +1,4 @@
-//! Running the built program over text files.
+//! Running the built programs over text files.
 
 use std::ffi::OsStr;
 use std::fs;
@@ -7,7 +7,7 @@ use std::process::Command;
 
 use super::{Event, Row};
 
-/// What the program printed; its exit status has been looked at.
+/// What a program printed; its exit status has been looked at.
 #[derive(Debug, PartialEq, Eq)]
 pub struct Printed {
     pub output: String,
@@ -31,9 +31,19 @@ pub fn file(name: &str, bytes: &[u8]) -> PathBuf {
     path
 }
 
-/// Runs the program with these arguments; it must end with status 0.
+/// Runs `second` with these arguments.
 pub fn program<A: AsRef<OsStr>>(arguments: &[A]) -> Printed {
-    let done = Command::new(env!("CARGO_BIN_EXE_second"))
+    printed(env!("CARGO_BIN_EXE_second"), arguments)
+}
+
+/// Runs `promise` with these arguments.
+pub fn promise<A: AsRef<OsStr>>(arguments: &[A]) -> Printed {
+    printed(env!("CARGO_BIN_EXE_promise"), arguments)
+}
+
+/// What a program prints; it must end with status 0.
+fn printed<A: AsRef<OsStr>>(program: &str, arguments: &[A]) -> Printed {
+    let done = Command::new(program)
         .args(arguments)
         .output()
         .expect("the program can be started");

@@ -1,7 +1,6 @@
 //! Faults of the text form: what makes a file one that cannot be read.
 
-use crate::files::{lines, Files};
-use second::trials::Random;
+use second::trials::{lines, Files, Random};
 
 /// What the two files must begin with.
 const HEADINGS: [&[u8]; 2] = [b"identifier,parent,share\n", b"class,length\n"];
@@ -19,7 +18,7 @@ const WRONG_HEADINGS: [&[u8]; 10] = [
     b"1,0,0\n",
 ];
 
-const NOT_DIGITS: [&[u8]; 16] = [
+pub const NOT_DIGITS: [&[u8]; 16] = [
     b"",
     b"+1",
     b"-1",
@@ -38,7 +37,7 @@ const NOT_DIGITS: [&[u8]; 16] = [
     b"\xd9\xa1",
 ];
 
-const TOO_LARGE: [&[u8]; 7] = [
+pub const TOO_LARGE: [&[u8]; 7] = [
     b"4294967296",
     b"4294967396",
     b"04294967296",
@@ -95,13 +94,16 @@ pub const FAULTS: [Fault; 18] = [
 /// So many of them always make a file that cannot be read.
 const SURE: usize = 13;
 
-/// Puts the fault into one of the two files.
+/// Puts the fault into one of the two files; for a sheet, into the table.
 pub fn put_in(files: &mut Files, fault: Fault, random: &mut Random) {
     if fault == Fault::Two {
         put_in(files, random.pick(&FAULTS[..SURE]), random);
         return put_in(files, random.pick(&FAULTS[..SURE]), random);
     }
-    let which = random.below(2);
+    let which = match files.sheet {
+        Some(_) => 0,
+        None => random.below(2),
+    };
     let file = match which {
         0 => &mut files.table,
         _ => &mut files.events,

@@ -1,13 +1,10 @@
-//! The program `compare PROVED SECOND [SEED [LISTS]]`: two replayers over the same files.
+//! The program `compare PROVED SECOND [SEED [LISTS]]`: two folders' programs over the same files.
 #![forbid(unsafe_code)]
 
 mod damage;
 mod faults;
-mod files;
 mod plan;
-mod run;
-mod show;
-mod shrink;
+mod sheets;
 mod tally;
 
 use std::env;
@@ -19,12 +16,11 @@ use std::sync::atomic::{AtomicUsize, Ordering};
 use std::thread;
 
 use plan::trial;
-use run::Bench;
-use second::trials::Folder;
+use second::trials::{difference, folders, shrink, Bench, Folder};
 use tally::Tally;
 
 const DEFAULT_SEED: u64 = 840;
-const DEFAULT_LISTS: usize = 2400;
+const DEFAULT_LISTS: usize = 2880;
 
 struct Settings {
     programs: [PathBuf; 2],
@@ -53,12 +49,12 @@ fn settings(arguments: &[OsString]) -> Result<Settings> {
     let lists = number(3, DEFAULT_LISTS as u64).and_then(|lists| usize::try_from(lists).ok());
     match (arguments, number(2, DEFAULT_SEED), lists) {
         ([proved, second, rest @ ..], Some(seed), Some(lists)) if rest.len() < 3 => Ok(Settings {
-            programs: [proved.into(), second.into()],
+            programs: folders(proved, second)?,
             seed,
             lists,
         }),
         _ => Err(Error::other(
-            "give two programs, then a seed and a number of lists if you like: \
+            "give the folders of the programs, then a seed and a number of lists if you like: \
              compare PROVED SECOND [SEED [LISTS]]",
         )),
     }
@@ -113,7 +109,7 @@ fn some_lists(
     worker: usize,
     next: &AtomicUsize,
 ) -> Result<Tally> {
-    let bench = Bench::new(&settings.programs, folder, worker);
+    let bench = Bench::new(&settings.programs, &folder.join(worker.to_string()))?;
     let mut tally = Tally::default();
     loop {
         let taken = next.fetch_add(1, Ordering::Relaxed);
@@ -127,14 +123,14 @@ fn some_lists(
 
 /// Cuts the list down and shows what is left of it.
 fn show_difference(settings: &Settings, folder: &Path, list: usize) -> Result<()> {
-    let bench = Bench::new(&settings.programs, folder, 0);
+    let bench = Bench::new(&settings.programs, folder)?;
     let found = trial(settings.seed, list, settings.lists);
     println!(
         "compare: list {list} ({}) comes out differently",
         found.name
     );
     let mut differs = |files: &_| bench.run(files).is_ok_and(|both| both.agreed().is_none());
-    let small = shrink::shrink(&found.files, &mut differs);
-    print!("{}", show::difference(&small, &bench.run(&small)?));
+    let small = shrink(&found.files, &mut differs);
+    print!("{}", difference(&small, &bench.run(&small)?));
     Ok(())
 }

@@ -1,10 +1,12 @@
 //! Which lists are compared: a round of kinds, over and over, and one list of full size.
 
+use std::mem::discriminant;
+
 use crate::damage::{damage, damage_twice};
 use crate::faults::{put_in, Fault, FAULTS};
-use crate::files::Files;
+use crate::sheets::{sheet_files, Manner};
 use second::trials::{
-    allowed_shares, random_events, random_table, Case, Random, Shape, MOST_EVENTS,
+    allowed_shares, random_events, random_table, Case, Files, Random, Shape, MOST_EVENTS,
 };
 
 #[derive(Clone, Copy, Debug)]
@@ -15,11 +17,13 @@ enum Kind {
     TwiceDamaged,
     Faulty,
     FullSize,
+    Sheet(Manner),
+    FaultySheet,
 }
 
-use Kind::{Accepted, Faulty, NoEvents, Refused, TwiceDamaged};
+use Kind::{Accepted, Faulty, FaultySheet, NoEvents, Refused, Sheet, TwiceDamaged};
 
-const ROUND: [Kind; 40] = [
+const ROUND: [Kind; 48] = [
     Accepted(Shape::Flat),
     Accepted(Shape::Flat),
     Accepted(Shape::Chain),
@@ -60,6 +64,14 @@ const ROUND: [Kind; 40] = [
     Faulty,
     Faulty,
     Faulty,
+    Sheet(Manner::Plain),
+    Sheet(Manner::Plain),
+    Sheet(Manner::Steep),
+    Sheet(Manner::Steep),
+    Sheet(Manner::Steep),
+    Sheet(Manner::Refused),
+    Sheet(Manner::Arguments),
+    FaultySheet,
 ];
 
 /// One list and what it is, for a reader.
@@ -75,6 +87,21 @@ pub fn trial(seed: u64, number: usize, lists: usize) -> Trial {
         true => ROUND[number % ROUND.len()],
         false => Kind::FullSize,
     };
+    match kind {
+        Sheet(manner) => sheet(manner, &mut random),
+        FaultySheet => sheet(Manner::Faulty(fault_in_turn(number)), &mut random),
+        _ => run(kind, number, random),
+    }
+}
+
+fn sheet(manner: Manner, random: &mut Random) -> Trial {
+    Trial {
+        name: format!("Sheet({manner:?})"),
+        files: sheet_files(manner, random),
+    }
+}
+
+fn run(kind: Kind, number: usize, mut random: Random) -> Trial {
     let mut case = accepted_case(kind, number, &mut random);
     match kind {
         Refused(refusal) => {
@@ -95,10 +122,11 @@ pub fn trial(seed: u64, number: usize, lists: usize) -> Trial {
     Trial { name, files }
 }
 
-/// The faults take turns.
+/// The faults take turns, one after another where lists with faults follow each other.
 fn fault_in_turn(number: usize) -> Fault {
-    let in_round = ROUND.iter().filter(|kind| matches!(kind, Faulty)).count();
-    let turn = number / ROUND.len() * in_round + number % ROUND.len();
+    let kind = discriminant(&ROUND[number % ROUND.len()]);
+    let alike = ROUND.iter().filter(|k| discriminant(*k) == kind).count();
+    let turn = number / ROUND.len() * alike + number % ROUND.len();
     FAULTS[turn % FAULTS.len()]
 }
 
@@ -162,9 +190,10 @@ mod tests {
     #[test]
     fn every_fault_takes_its_turn() {
         let name = |number| trial(1, number, DEFAULT_LISTS).name;
-        let is_faulty = |number: &usize| matches!(ROUND[number % ROUND.len()], Faulty);
+        let kind = |number: usize| ROUND[number % ROUND.len()];
+        let is_faulty = |number: &usize| matches!(kind(*number), Faulty | FaultySheet);
         let names: BTreeSet<String> = (0..DEFAULT_LISTS).filter(is_faulty).map(name).collect();
-        assert_eq!(names.len(), FAULTS.len());
+        assert_eq!(names.len(), 2 * FAULTS.len());
     }
 
     #[test]
@@ -183,8 +212,8 @@ mod tests {
 
     #[test]
     fn the_same_seed_gives_the_same_files() {
-        let files = |seed, number| trial(seed, number, 40).files;
-        assert!((0..40).all(|number| files(1, number) == files(1, number)));
-        assert!((0..40).any(|number| files(1, number) != files(2, number)));
+        let files = |seed, number| trial(seed, number, ROUND.len()).files;
+        assert!((0..ROUND.len()).all(|number| files(1, number) == files(1, number)));
+        assert!((0..ROUND.len()).all(|number| files(1, number) != files(2, number)));
     }
 }

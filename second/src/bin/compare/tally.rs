@@ -1,6 +1,6 @@
 //! Counts what came of the lists.
 
-use crate::run::ANSWERS;
+use second::trials::{answer_name, ANSWERS};
 
 /// No text brings about answer 3: the programs lend slices that are long enough.
 const NEVER: usize = 3;
@@ -36,14 +36,14 @@ impl Tally {
 
     /// A line for each answer.
     pub fn text(&self) -> String {
-        let line = |(answer, count): (usize, &usize)| format!("{}: {count}\n", name(answer));
+        let line = |(answer, count): (usize, &usize)| format!("{}: {count}\n", answer_name(answer));
         self.counts.iter().enumerate().map(line).collect()
     }
 
     /// Sentences on answers that came up too seldom, or that must not come up.
     pub fn shortages(&self) -> Vec<String> {
         let said = |(answer, count): (usize, &usize)| {
-            let name = name(answer);
+            let name = answer_name(answer);
             match answer {
                 NEVER if *count > 0 => Some(format!("{name} must never come up")),
                 NEVER => None,
@@ -52,13 +52,6 @@ impl Tally {
             }
         };
         self.counts.iter().enumerate().filter_map(said).collect()
-    }
-}
-
-fn name(answer: usize) -> String {
-    match answer < ANSWERS - 1 {
-        true => format!("answer {answer}"),
-        false => "cannot read".to_string(),
     }
 }
 

@@ -1,4 +1,4 @@
-//! The program `speed PROVED SECOND [RUNS]`: times both over the same lists, as Markdown.
+//! The program `speed PROVED SECOND [RUNS]`: times both replayers over the same lists, as Markdown.
 #![forbid(unsafe_code)]
 
 mod inputs;
@@ -7,11 +7,11 @@ mod timing;
 use std::env;
 use std::ffi::OsString;
 use std::io::{Error, Result};
-use std::path::PathBuf;
+use std::path::{Path, PathBuf};
 use std::process::ExitCode;
 
 use inputs::{Input, Part};
-use second::trials::Folder;
+use second::trials::{Folder, Program};
 use timing::{Bench, Times};
 
 /// Measured runs of each program over each list.
@@ -35,10 +35,16 @@ fn settings(arguments: &[OsString]) -> Result<([PathBuf; 2], usize)> {
     };
     match (arguments, runs) {
         ([proved, second, rest @ ..], Some(runs)) if runs > 0 && rest.len() < 2 => {
-            Ok(([proved.into(), second.into()], runs))
+            let [replay, other] = Program::Replay.names();
+            let programs = [
+                Path::new(proved).join(replay),
+                Path::new(second).join(other),
+            ];
+            Ok((programs, runs))
         }
         _ => Err(Error::other(
-            "give two programs, then a number of runs if you like: speed PROVED SECOND [RUNS]",
+            "give the folders of the programs, then a number of runs if you like: \
+             speed PROVED SECOND [RUNS]",
         )),
     }
 }

@@ -1,8 +1,9 @@
 //! Cuts a list down as long as the two programs still differ on it.
 
+use std::ffi::OsString;
 use std::time::{Duration, Instant};
 
-use crate::files::{lines, Files};
+use super::{lines, Files};
 
 /// How long each step may take; after one that takes longer the rest of the round is the last.
 const MOST_TIME: Duration = Duration::from_secs(20);
@@ -14,6 +15,7 @@ struct Shrinker<'a> {
     events: Lines,
     /// Which of the two files are there at all.
     there: [bool; 2],
+    sheet: Option<Vec<OsString>>,
     differs: &'a mut dyn FnMut(&Files) -> bool,
     /// When the step began.
     begun: Instant,
@@ -34,6 +36,7 @@ pub fn shrink(files: &Files, differs: &mut dyn FnMut(&Files) -> bool) -> Files {
         table: of(&files.table),
         events: of(&files.events),
         there: [files.table.is_some(), files.events.is_some()],
+        sheet: files.sheet.clone(),
         differs,
         begun: Instant::now(),
     };
@@ -58,6 +61,7 @@ impl Shrinker<'_> {
         Files {
             table: table_there.then(|| table.concat()),
             events: events_there.then(|| events.concat()),
+            sheet: self.sheet.clone(),
         }
     }
 
@@ -233,7 +237,7 @@ fn without_idle_finishes(events: &Lines) -> Lines {
 #[cfg(test)]
 mod tests {
     use super::*;
-    use second::trials::{random_events, random_table, Case, Random, Shape};
+    use crate::trials::{random_events, random_table, Case, Event, Random, Shape, FINISH};
 
     fn list() -> Files {
         let mut random = Random::new(5, 0);
@@ -241,8 +245,8 @@ mod tests {
         let mut events = random_events(&rows, 3000, false, &mut random);
         let class = rows[rows.len() - 1].identifier;
         let length = 1777;
-        events.push(second::trials::Event { class, length });
-        events.push(second::trials::FINISH);
+        events.push(Event { class, length });
+        events.push(FINISH);
         Files::of(&Case { rows, events })
     }
 
@@ -273,8 +277,8 @@ mod tests {
         };
         let events = b"class,length\n5,2048\n6,2048\n".to_vec();
         let files = Files {
-            table: None,
             events: Some(events),
+            ..Files::default()
         };
         let small = shrink(&files, &mut |files| equal(files));
         assert_eq!(text(&small.events), "class,length\n5,1\n6,1\n");

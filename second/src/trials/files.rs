@@ -1,12 +1,16 @@
-//! The bytes of the two files of a list, and the lines they consist of.
+//! The bytes of the files that programs are run over, and the lines they consist of.
 
-use second::trials::{Case, Random};
+use std::ffi::OsString;
+
+use super::{Case, Random};
 
 /// A file that is not there has no bytes.
-#[derive(Clone, Debug, PartialEq, Eq)]
+#[derive(Clone, Debug, Default, PartialEq, Eq)]
 pub struct Files {
     pub table: Option<Vec<u8>>,
     pub events: Option<Vec<u8>>,
+    /// Where a sheet is asked for and not a run: the arguments after the table.
+    pub sheet: Option<Vec<OsString>>,
 }
 
 impl Files {
@@ -14,6 +18,7 @@ impl Files {
         Files {
             table: Some(case.table_text().into_bytes()),
             events: Some(case.event_text().into_bytes()),
+            sheet: None,
         }
     }
 

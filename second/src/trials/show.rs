@@ -1,7 +1,6 @@
-//! Shows a difference: the two files and what each program printed.
+//! Shows a difference: the files and what each program printed.
 
-use crate::files::{lines, Files};
-use crate::run::{Both, Printed};
+use super::{lines, Both, End, Files, Printed};
 
 /// Lines of a file or an output that are shown at most.
 const MOST_LINES: usize = 60;
@@ -13,9 +12,13 @@ pub fn difference(files: &Files, both: &Both) -> String {
     let [proved, second] = &both.0;
     let outputs = lines(&proved.output).into_iter().zip(lines(&second.output));
     let alike = outputs.take_while(|(one, other)| one == other).count();
+    let rest = match &files.sheet {
+        None => file("the list", &files.events),
+        Some(arguments) => format!("--- arguments after the table: {arguments:?}\n"),
+    };
     [
         file("the table", &files.table),
-        file("the list", &files.events),
+        rest,
         printed("the proved program", proved, alike),
         printed("the second program", second, alike),
     ]
@@ -35,8 +38,8 @@ fn printed(name: &str, printed: &Printed, alike: usize) -> String {
     if !printed.error.is_empty() {
         text += &format!("--- {name}, standard error\n{}", shown(&printed.error, 0));
     }
-    if printed.killed {
-        text += &format!("--- {name} was killed by a signal\n");
+    if printed.end != End::Status(0) {
+        text += &format!("--- {name} ended otherwise: {:?}\n", printed.end);
     }
     text
 }

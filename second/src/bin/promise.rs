@@ -1,0 +1,8 @@
+//! The program `promise TABLE LARGEST [OWN]`.
+#![forbid(unsafe_code)]
+
+use std::process::ExitCode;
+
+fn main() -> ExitCode {
+    second::program::answer(second::promise::respond)
+}
