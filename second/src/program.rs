@@ -84,7 +84,7 @@ pub(crate) fn read_table(file: &OsStr) -> Result<TableColumns, Vec<u8>> {
 
 fn read_file(file: &OsStr, heading: &str) -> Result<Vec<Vec<u32>>, Vec<u8>> {
     let bytes =
-        fs::read(file).map_err(|_| cannot_read(file, ": it is missing or cannot be opened"))?;
+        fs::read(file).map_err(|_| cannot_read(file, ": it is missing or cannot be read"))?;
     read_columns(&bytes, heading)
         .map_err(|fault| cannot_read(file, &format!(", line {}: {}", fault.line, fault.what)))
 }

@@ -116,7 +116,7 @@ fn leading_zeros_are_read() {
 fn a_missing_table_cannot_be_read() {
     let missing = PathBuf::from(env!("CARGO_TARGET_TMPDIR")).join("missing.table");
     let said = fault_of(&missing, &[&missing, &missing]);
-    assert_eq!(said, ": it is missing or cannot be opened\n");
+    assert_eq!(said, ": it is missing or cannot be read\n");
 }
 
 #[test]
@@ -124,7 +124,7 @@ fn missing_events_cannot_be_read() {
     let table = file("alone.table", table_text(&HALVES).as_bytes());
     let missing = PathBuf::from(env!("CARGO_TARGET_TMPDIR")).join("missing.events");
     let said = fault_of(&missing, &[&table, &missing]);
-    assert_eq!(said, ": it is missing or cannot be opened\n");
+    assert_eq!(said, ": it is missing or cannot be read\n");
 }
 
 #[test]
@@ -132,7 +132,7 @@ fn a_folder_cannot_be_read() {
     let folder = PathBuf::from(env!("CARGO_TARGET_TMPDIR")).join("folder");
     fs::create_dir_all(&folder).expect("the test's folder can be made");
     let said = fault_of(&folder, &[&folder, &folder]);
-    assert_eq!(said, ": it is missing or cannot be opened\n");
+    assert_eq!(said, ": it is missing or cannot be read\n");
 }
 
 #[test]
@@ -270,7 +270,7 @@ fn a_files_name_is_printed_as_it_was_given() {
 
     let name = OsString::from_vec(b"no\xffsuch".to_vec());
     let response = second::program::respond(&[name, OsString::new()]);
-    let expected = b"cannot read no\xffsuch: it is missing or cannot be opened\n";
+    let expected = b"cannot read no\xffsuch: it is missing or cannot be read\n";
     assert_eq!(response.output, expected);
     assert!(response.error.is_empty());
 }

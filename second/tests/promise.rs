@@ -221,7 +221,7 @@ fn arguments_are_looked_at_from_left_to_right_and_before_the_table() {
     assert_eq!(said([missing, "0", "x"]), range);
     let own = "cannot read OWN: it is not a decimal number\n";
     assert_eq!(said([missing, "1", "x"]), own);
-    let table = "cannot read no such table: it is missing or cannot be opened\n";
+    let table = "cannot read no such table: it is missing or cannot be read\n";
     assert_eq!(said([missing, "1", "1"]), table);
 }
 

@@ -16,7 +16,7 @@ pub fn cannot_open(name: &[u8]) {
     let mut out = [0u8; 8192];
     let sink = put_text(&mut out, onto(STDOUT_FILENO), b"cannot read ");
     let sink = put_text(&mut out, sink, name);
-    let sink = put_text(&mut out, sink, b": it is missing or cannot be opened\n");
+    let sink = put_text(&mut out, sink, b": it is missing or cannot be read\n");
     flush(&mut out, sink);
 }
 
