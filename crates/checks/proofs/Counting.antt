@@ -2,26 +2,17 @@
 -- Assumes nothing.
 use Prim.Native.Nat.{ℕ, zero, suc, _<_}
 use mathlib.Core.Path.{_≡_, refl, sym, _∙_, ap}
-use mathlib.Core.Bool.{Bool, true, false, not}
 use mathlib.Core.List.{[], _∷_}
 use native.Mathlib.Decide.{ℕ-discrete}
-use native.Mathlib.Omega.{arith}
-use lib.Dec.{leb}
-use borrow.Author.Tests.{le-leb, lt-leb}
-use Rattle.rules.specs.declared.Event.{Event}
-use Rattle.rules.specs.declared.Event.the-variants.{Arrival, Finish}
 use Rattle.rules.specs.declared.Refusal.{Refusal}
 use Rattle.rules.specs.Classes.{Table, Tree, tree-of}
 use Rattle.rules.specs.Events.{Events, count, length-word, event}
-use Rattle.rules.specs.Box.{Box, has-head}
-use Rattle.rules.specs.Steps.{after}
-use Rattle.rules.specs.Promise.{arrived, finish-count}
-use Rattle.rules.specs.Refusals.{Room, nothing, or-else, first, first-below, rows-refused, events-refused, room-refused, table-refused, idle, meeting-refused, event-refused, refused}
+use Rattle.rules.specs.Refusals.{Room, nothing, or-else, first, first-below, rows-refused, events-refused, room-refused, table-refused, meeting-refused, event-refused, refused}
 use Rattle.laws.specs.Sound.{Sound}
-use Rattle.laws.proofs.Trees.{sound}
+use Rattle.laws.proofs.Trees.{or-none, below-none, sound}
 use Rattle.laws.proofs.Idle.{idle-is-counted}
 use Rattle.checks.specs.Counted.{counted-refused, lengths-refused}
-use Rattle.tables.proofs.Firsts.{or-else-first, none-first, first-append, each-none}
+use Rattle.tables.proofs.Firsts.{or-else-first, first-append}
 
 module _ (tree : Tree) (sound : Sound tree) (events : Events) where
   event-counted : (n : ℕ) → ((i : ℕ) → i < n → event-refused tree events i .number ≡ 0)
@@ -36,14 +27,14 @@ module _ (tree : Tree) (sound : Sound tree) (events : Events) where
   abbrev ruled : ℕ → Refusal
   ruled = first-below (event-refused tree events)
 
-  pub counting-agrees : (n : ℕ) → first-below (counted-refused tree events) n ≡ first-below (event-refused tree events) n
+  counting-agrees : (n : ℕ) → first-below (counted-refused tree events) n ≡ first-below (event-refused tree events) n
   unfolding first-below
   counting-agrees zero = refl
   counting-agrees (suc n) = go (counting-agrees n) (ℕ-discrete (ruled n .number) 0)
     where
       go : counted n ≡ ruled n → Dec (ruled n .number ≡ 0)
           → or-else (counted n) (counted-refused tree events n) ≡ or-else (ruled n) (event-refused tree events n)
-      go same (yes none) = rw (same, event-counted n (each-none (event-refused tree events) n none)) refl
+      go same (yes none) = rw (same, event-counted n (below-none (event-refused tree events) n none)) refl
       go same (no some) =
           rw same
           (or-else-first (ruled n) (counted-refused tree events n) some ∙ sym (or-else-first (ruled n) (event-refused tree events n) some))
@@ -72,5 +63,5 @@ module _ (table : Table) (events : Events) (room : Room) where
       go (yes none) (no some) =
           ap (or-else lengths) (or-else-first (table-refused table) _ some ∙ sym (or-else-first (table-refused table) _ some))
       go (yes none) (yes fine) =
-          let sized = none-first (rows-refused table) _ none in
+          let sized = or-none (rows-refused table) _ none .0 in
           rw (counting-agrees (tree-of table) (sound table sized fine) events (count events)) refl

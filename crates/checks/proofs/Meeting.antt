@@ -16,10 +16,10 @@ use Rattle.rules.specs.Classes.{Tree, place-of, row-of}
 use Rattle.rules.specs.Events.{Events, class-word, length-word, decode, event}
 use Rattle.rules.specs.Promise.{within, for-part, one-arrival, one-finish, arrived, finish-count}
 use Rattle.rules.specs.Refusals.{nothing, given, or-else, first, first-below, meeting-refused}
+use Rattle.laws.proofs.Trees.{first-none, given-none, place-most}
 use Rattle.tables.specs.Answers.{refusal-of}
 use Rattle.checks.specs.Counted.{packet-refusal, counted-refused, Known}
-use Rattle.tables.proofs.Places.{place-within}
-use Rattle.tables.proofs.Firsts.{Plain, or-else-second, none-first, given-false, given-plain, or-else-plain, last-plain, below-plain, stopped}
+use Rattle.tables.proofs.Firsts.{Plain, or-else-second, given-plain, or-else-plain, last-plain, below-plain, stopped}
 
 -- ── rows ──
 
@@ -30,7 +30,7 @@ module _ (tree : Tree) (identifiers : List ℕ) (senders : List Bool) (known : K
 
   row-within : (class : ℕ) → row-of tree class ≤ length identifiers
   unfolding row-of
-  row-within class = rw (known .names) (place-within class identifiers)
+  row-within class = rw (known .names) (place-most class identifiers)
 
   module _ (i word : ℕ) (idle : Bool) (class bytes row : ℕ) (found : row ≡ place-of class identifiers) where
     pub unknown-class : row ≡ length identifiers → refusal-of 11 i 0 ≡ meeting-refused tree i word (Arrival class bytes) idle
@@ -55,15 +55,15 @@ module _ (tree : Tree) (identifiers : List ℕ) (senders : List Bool) (known : K
   -- an arrival that is not refused is for a row
   arrival-counts : (class bytes i word : ℕ) (idle : Bool) → meeting-refused tree i word (Arrival class bytes) idle .number ≡ 0
       → within tree 0 (row-of tree class) ≡ true
-  unfolding meeting-refused first
+  unfolding meeting-refused
   arrival-counts class bytes i word idle none =
-      let test = given-false (eqb (row-of tree class) (tree .rows)) 11 i (omega arith) (none-first (given _ 11 i) _ none) in
+      let test = given-none (eqb (row-of tree class) (tree .rows)) _ _ (first-none _ none .0) in
       let other = eqb-false (row-of tree class) (tree .rows) test in
       let lower = row-within class in
       let rows = known .rows in
       known .rooted (row-of tree class) (omega arith)
 
-  pub event-counts : (events : Events) (i : ℕ) (idle : Bool) → meeting-refused tree i (length-word events i) (event events i) idle .number ≡ 0
+  event-counts : (events : Events) (i : ℕ) (idle : Bool) → meeting-refused tree i (length-word events i) (event events i) idle .number ≡ 0
       → cond (for-part tree events 0 i) (one-arrival (event events i)) 0 ≡ one-arrival (event events i)
   unfolding for-part event decode one-arrival
   event-counts events i idle none = go (eqb class 0) none
@@ -92,7 +92,7 @@ pub passed-none : (tree : Tree) (events : Events) → Passed tree events 0 0 0
 unfolding arrived finish-count first-below nothing
 passed-none tree events = record { came = refl; went = refl; none = refl }
 
-pub meeting-plain : (tree : Tree) (i word : ℕ) (e : Event) (idle : Bool) → Plain (meeting-refused tree i word e idle)
+meeting-plain : (tree : Tree) (i word : ℕ) (e : Event) (idle : Bool) → Plain (meeting-refused tree i word e idle)
 unfolding meeting-refused first
 meeting-plain tree i word (Arrival class bytes) idle =
     or-else-plain (given _ 11 i) _ (given-plain _ 11 i (omega arith))

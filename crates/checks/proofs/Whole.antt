@@ -2,10 +2,9 @@
 -- Assumes nothing.
 use Prim.Native.Nat.{_≤_}
 use mathlib.Core.Path.{_≡_, refl, sym, _∙_}
-use mathlib.Core.Bool.{Bool, true, false, cond, not, _||_}
+use mathlib.Core.Bool.{Bool, true, false, cond, not}
 use mathlib.Core.Logic.{_≢_}
-use mathlib.Core.List.{[], _∷_}
-use native.Mathlib.Omega.{arith}
+use mathlib.Mathlib.Data.Bool.Basic.{or-eq-false-eq-eq-false-and-eq-false as or-is-false}
 use lib.Dec.{eqb, ltb}
 use lib.ListN.{length}
 use borrow.Author.Tests.{eqb-true, ltb-false, not-false}
@@ -13,13 +12,14 @@ use Rattle.rules.specs.declared.Refusal.{Refusal}
 use Rattle.rules.specs.Limits.{most-events}
 use Rattle.rules.specs.Classes.{Table, Tree, tree-of}
 use Rattle.rules.specs.Events.{Events, count}
-use Rattle.rules.specs.Refusals.{Room, nothing, or-else, first, first-below, rows-refused, events-refused, table-refused, refused}
+use Rattle.rules.specs.Refusals.{Room, nothing, or-else, first-below, rows-refused, events-refused, table-refused, refused}
+use Rattle.laws.proofs.Trees.{first-none, given-none}
 use Rattle.tables.specs.Lent.{Sized}
 use Rattle.tables.specs.Answers.{senders-below, accepting, refusing, answer}
 use Rattle.checks.specs.Counted.{counted-refused, lengths-refused}
-use Rattle.tables.proofs.Firsts.{or-else-first, or-else-second, none-first, none-second, given-false, table-plain}
+use Rattle.tables.proofs.Firsts.{or-else-first, or-else-second, table-plain}
 use Rattle.checks.proofs.Counting.{rules-split}
-use Rattle.tables.proofs.Answering.{first-false, second-false, sized, answer-accepts}
+use Rattle.tables.proofs.Answering.{sized, answer-accepts}
 
 -- an answer has the refusal that it is made of
 pub answer-refusal : (refusal : Refusal) (tree : Tree) → answer refusal tree .refusal ≡ refusal
@@ -67,18 +67,19 @@ module _ (table : Table) (events : Events) (room : Room) where
   pub by-none : lengths .number ≡ 0 → table-refused table .number ≡ 0 → listed .number ≡ 0 → refused table events room ≡ table-refused table
   by-none none fine passed = past-table none fine ∙ or-else-second listed nothing passed ∙ sym (table-plain table fine)
 
+  pub whole-rows : lengths .number ≡ 0 → rows-refused table .number ≡ 0
+  unfolding lengths-refused
+  whole-rows none = first-none _ none .0
+
   pub whole-sized : lengths .number ≡ 0 → Sized table
-  unfolding lengths-refused first
-  whole-sized none = sized table (none-first (rows-refused table) _ none)
+  whole-sized none = sized table (whole-rows none)
 
   pub whole-listed : lengths .number ≡ 0 → Listed events
-  unfolding lengths-refused first events-refused
+  unfolding lengths-refused events-refused
   whole-listed none =
-      let a = not (eqb (length (events .lengths)) (count events)) in
-      let b = ltb most-events (count events) in
-      let both = given-false (a || b) 2 0 (omega arith) (none-first (events-refused events) _ (none-second (rows-refused table) _ none)) in
+      let even = eqb (length (events .lengths)) (count events) in
+      let both = or-is-false (not even) (ltb most-events (count events)) .0 (given-none _ _ _ (first-none _ none .1 .0)) in
       record {
-        even = eqb-true (length (events .lengths)) (count events)
-            (not-false (eqb (length (events .lengths)) (count events)) (first-false a b both));
-        few = ltb-false most-events (count events) (second-false a b both);
+        even = eqb-true (length (events .lengths)) (count events) (not-false even (both .0));
+        few = ltb-false most-events (count events) (both .1);
       }

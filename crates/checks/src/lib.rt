@@ -5,6 +5,7 @@ ghost use Prim.Native.Nat.{ℕ, _≤_, _<_, _^_};
 ghost use lib.ListN.{length};
 ghost use lib.ListN as lists;
 ghost use Rattle.rules.specs.declared.Event.the-variants.{Arrival, Finish};
+ghost use Rattle.rules.specs.Limits.{most-rows, most-events};
 ghost use Rattle.rules.specs.Classes.{Tree};
 ghost use Rattle.rules.specs.Events.{decode};
 ghost use Rattle.rules.specs.Promise.{one-arrival, one-finish};
@@ -131,7 +132,7 @@ fn one_finish(event: Event) -> usize
 
 // A packet for a class that is there: 12, 13.
 fn packet_refused(i: usize, sending: bool, length: u32) -> Refusal
-    requires { ⌜ i < 65536 ⌝ }
+    requires { ⌜ i < most-events ⌝ }
     ensures { λ r. ⌜ r ≡ packet-refusal i sending length ⌝ }
 {
     if !sending {
@@ -154,7 +155,7 @@ fn arrival_refused(
     class: u32,
     length: u32,
 ) -> Refusal
-    requires { ⌜ (lists.length (now identifiers) ≤ 256) × (i < 65536) ⌝ }
+    requires { ⌜ (lists.length (now identifiers) ≤ most-rows) × (i < most-events) ⌝ }
     ensures { λ f. ⌜ ((tree : Tree) (word : ℕ) (idle : Bool) → Known tree (now (identifiers .entry)) (now (senders .entry))
         → f ≡ meeting-refused tree i word (Arrival class length) idle) ⌝ }
 {
@@ -167,7 +168,7 @@ fn arrival_refused(
 
 // A finish: 13, 14.
 fn finish_refused(i: usize, word: u32, idle: bool) -> Refusal
-    requires { ⌜ i < 65536 ⌝ }
+    requires { ⌜ i < most-events ⌝ }
     ensures { λ f. ⌜ ((tree : Tree) → f ≡ meeting-refused tree i word Finish idle) ⌝ }
 {
     let wrong = tables::given(word != 0, 13, i);
@@ -184,7 +185,7 @@ fn event_refused(
     event: Event,
     idle: bool,
 ) -> Refusal
-    requires { ⌜ (length (now identifiers) ≤ 256) × (i < 65536) ⌝ }
+    requires { ⌜ (length (now identifiers) ≤ most-rows) × (i < most-events) ⌝ }
     ensures { λ f. ⌜ ((tree : Tree) → Known tree (now (identifiers .entry)) (now (senders .entry)) → f ≡ meeting-refused tree i word event idle) ⌝ }
 {
     match event {
@@ -200,7 +201,7 @@ fn list_refused(
     classes: &[u32],
     lengths: &[u32],
 ) -> Refusal
-    requires { ⌜ (length (now identifiers) ≤ 256) × (length (now classes) ≤ 65536) × (length (now lengths) ≡ length (now classes)) ⌝ }
+    requires { ⌜ (length (now identifiers) ≤ most-rows) × (length (now classes) ≤ most-events) × (length (now lengths) ≡ length (now classes)) ⌝ }
     ensures { λ f. ⌜ ((tree : Tree) → Known tree (now (identifiers .entry)) (now (senders .entry))
         → f ≡ first-below (counted-refused tree (events-of (now (classes .entry)) (now (lengths .entry)))) (length (now (classes .entry)))) ⌝ }
 {

@@ -1,7 +1,6 @@
 -- How far a row's tags rise: a charge, a raised virtual time and the ticks that pass over a packet fit the room that the tags have.
 -- Assumes nothing.
 use Prim.Native.Nat.{ℕ, zero, suc, _+_, _*_, _≤_, _<_, _^_, max}
-use mathlib.Core.Path.{_≡_}
 use mathlib.Core.Bool.{Bool, true, false, cond}
 use mathlib.Core.List.{List, [], _∷_}
 use native.Mathlib.Nat.{mul-le-mul, div-le-self}

@@ -1,6 +1,6 @@
--- What a loop writes over a lent slice: words after those that it has written; how many there are; a row of the report.
+-- What a loop writes over a lent slice: words after those that it has written; a row of the report.
 -- Assumes nothing.
-use Prim.Native.Nat.{ℕ, zero, suc, _+_, _*_, _≤_}
+use Prim.Native.Nat.{ℕ, zero, suc, _+_, _≤_}
 use mathlib.Core.Bool.{Bool, cond}
 use mathlib.Core.Path.{_≡_, refl, ap, _∙_}
 use mathlib.Core.List.{List, [], _∷_, _++_}
@@ -10,11 +10,11 @@ use lib.ListN.{length, getD, drop, take, replicate, length-append, length-drop}
 use lib.Seq.{sets, sets-eq, take-append-seam, drop-append-add, drop-drop}
 use Rattle.rules.specs.Classes.{Tree, sends}
 use Rattle.rules.specs.Box.{Box}
-use Rattle.rules.specs.Outcome.{row-report, report-of, lags-of, over}
+use Rattle.rules.specs.Outcome.{row-report, over}
 use Rattle.counts.specs.Given.{Shown}
 
 module _ {A : Type 0} where
-  pub length-over : (ws lent : List A) → length ws ≤ length lent → length (over ws lent) ≡ length lent
+  length-over : (ws lent : List A) → length ws ≤ length lent → length (over ws lent) ≡ length lent
   unfolding over
   length-over ws lent room = simp (length-append, length-drop) (omega arith)
 
@@ -29,17 +29,7 @@ module _ {A : Type 0} where
       rest : take (length ws) (over ws lent) ++ vs ++ drop (length ws + length vs) (over ws lent) ≡ over (ws ++ vs) lent
       rest = rw (take-append-seam, drop-append-add, drop-drop, length-append)
 
--- five words a row, a lag a row, a 0 a turn
-pub length-report : (tree : Tree) (box : Box) (n : ℕ) → length (report-of tree box n) ≡ 5 * n
-unfolding report-of row-report
-length-report tree box zero = refl
-length-report tree box (suc r) = let before = length-report tree box r in simp length-append (omega arith)
-
-pub length-lags : (tree : Tree) (box : Box) (n : ℕ) → length (lags-of tree box n) ≡ n
-unfolding lags-of
-length-lags tree box zero = refl
-length-lags tree box (suc r) = let before = length-lags tree box r in simp length-append (omega arith)
-
+-- a 0 more
 pub replicate-more : (n : ℕ) → _≡_ {A = List ℕ} (replicate (suc n) 0) (replicate n 0 ++ 0 ∷ [])
 replicate-more zero = refl
 replicate-more (suc n) = ap (λ (xs : List ℕ). 0 ∷ xs) (replicate-more n)

@@ -3,16 +3,22 @@
 ghost use mathlib.Core.Path.{_≡_};
 ghost use mathlib.Core.Bool.{cond, false};
 ghost use mathlib.Core.List.{List, [], _∷_};
-ghost use Prim.Native.Nat.{ℕ, suc, pred, _+_, _*_, _≤_, _<_, _^_};
+ghost use Prim.Native.Nat.{ℕ, suc, pred, _+_, _*_, _-_, _≤_, _<_, _^_};
 ghost use lib.ListN.{length, getD, replicate};
 ghost use lib.Seq.{sets};
 ghost use lib.IntN.{pos, _-ℤ_};
-ghost use Rattle.rules.specs.Limits.{whole};
+ghost use Rattle.rules.specs.Limits.{most-rows, most-depth, whole, report-words};
 ghost use Rattle.rules.specs.Classes.{Tree, sends};
 ghost use Rattle.rules.specs.Box.{Box, head-class, head-length};
 ghost use Rattle.rules.specs.Steps.{along, arrival, departure};
 ghost use Rattle.rules.specs.Outcome.{row-report, report-of, lag, lags-of, over};
 ghost use Rattle.counts.specs.Given.{At-most, Paths, Shares, Sending, Counts, Shown, Past, own, above, begun, changed, paths};
+
+// The parts that make a whole.
+const WHOLE: u64 = 840;
+
+// Words of the report for a row.
+const REPORT_WORDS: usize = 5;
 
 // A number as an index.
 fn wide(x: u32) -> usize
@@ -23,7 +29,7 @@ fn wide(x: u32) -> usize
 
 // Row r's entry.
 fn entry(words: &[u32; 256], r: usize) -> usize
-    requires { ⌜ r < 256 ⌝ }
+    requires { ⌜ r < most-rows ⌝ }
     ensures { λ x. ⌜ x ≡ getD (now (words .entry)) r 0 ⌝ }
 {
     wide(words[r])
@@ -38,7 +44,7 @@ fn begin_at(
     parent_since: &mut [u64; 256],
     r: usize,
 )
-    requires { ⌜ r < 256 ⌝ ∗ ⌜ At-most 255 (now parents) ⌝ }
+    requires { ⌜ r < most-rows ⌝ ∗ ⌜ At-most (most-rows - 1) (now parents) ⌝ }
     ensures { λ _. ⌜ now (since .exit) ≡ changed (begun (now (held .entry)) (own (now (bytes .entry)))) r (now (since .entry)) ⌝ }
     ensures { λ _. ⌜ now («parent_since» .exit) ≡
         changed (begun (now (held .entry)) (above (now (parents .entry)) (now (bytes .entry)))) r (now («parent_since» .entry)) ⌝ }
@@ -60,7 +66,7 @@ fn begin(
     parent_since: &mut [u64; 256],
     k: usize,
 )
-    requires { ⌜ k < 256 ⌝ ∗ ⌜ At-most 255 (now parents) ⌝ }
+    requires { ⌜ k < most-rows ⌝ ∗ ⌜ At-most (most-rows - 1) (now parents) ⌝ }
     ensures { λ _. ⌜ now (since .exit) ≡
         along (paths (now (parents .entry)) (now (depths .entry)))
         (begun (now (held .entry)) (own (now (bytes .entry)))) k (now (since .entry)) ⌝ }
@@ -80,7 +86,7 @@ fn begin(
 
 // Row r holds one packet more.
 fn hold_at(held: &mut [u32; 256], r: usize)
-    requires { ⌜ r < 256 ⌝ ∗ ⌜ getD (now held) r 0 ≤ 2 ^ 31 + 8 ⌝ }
+    requires { ⌜ r < most-rows ⌝ ∗ ⌜ getD (now held) r 0 ≤ 2 ^ 31 + most-depth ⌝ }
     ensures { λ _. ⌜ now (held .exit) ≡ changed (λ i n. suc n) r (now (held .entry)) ⌝ }
 {
     held[r] += 1;
@@ -88,7 +94,7 @@ fn hold_at(held: &mut [u32; 256], r: usize)
 
 // Every row on the path from k holds one packet more.
 fn hold(parents: &[u32; 256], depths: &[u32; 256], held: &mut [u32; 256], k: usize)
-    requires { ⌜ k < 256 ⌝ ∗ ⌜ At-most 255 (now parents) ⌝ ∗ ⌜ getD (now depths) k 0 ≤ 8 ⌝ ∗ ⌜ At-most (2 ^ 31) (now held) ⌝ }
+    requires { ⌜ k < most-rows ⌝ ∗ ⌜ At-most (most-rows - 1) (now parents) ⌝ ∗ ⌜ getD (now depths) k 0 ≤ most-depth ⌝ ∗ ⌜ At-most (2 ^ 31) (now held) ⌝ }
     ensures { λ _. ⌜ now (held .exit) ≡ along (paths (now (parents .entry)) (now (depths .entry))) (λ r n. suc n) k (now (held .entry)) ⌝ }
 {
     let mut r = k;
@@ -112,7 +118,7 @@ pub fn enter(
     parent_since: &mut [u64; 256],
     k: usize,
 )
-    requires { ⌜ k < 256 ⌝ ∗ ⌜ At-most 255 (now parents) ⌝ ∗ ⌜ getD (now depths) k 0 ≤ 8 ⌝ ∗ ⌜ At-most (2 ^ 31) (now held) ⌝ }
+    requires { ⌜ k < most-rows ⌝ ∗ ⌜ At-most (most-rows - 1) (now parents) ⌝ ∗ ⌜ getD (now depths) k 0 ≤ most-depth ⌝ ∗ ⌜ At-most (2 ^ 31) (now held) ⌝ }
     ensures { λ _. ⌜ ((tree : Tree) (box : Box) (place size : ℕ) →
         Paths tree (now (parents .entry)) (now (depths .entry)) →
         Counts box (now (bytes .entry)) (now (held .entry)) (now (since .entry)) (now («parent_since» .entry)) →
@@ -124,7 +130,7 @@ pub fn enter(
 
 // Row r has finished so many bytes more, and holds one packet less.
 fn leave_at(bytes: &mut [u64; 256], held: &mut [u32; 256], r: usize, length: u64)
-    requires { ⌜ r < 256 ⌝ ∗ ⌜ getD (now bytes) r 0 ≤ 2 ^ 41 ⌝ ∗ ⌜ length < 2 ^ 32 ⌝ }
+    requires { ⌜ r < most-rows ⌝ ∗ ⌜ getD (now bytes) r 0 ≤ 2 ^ 41 ⌝ ∗ ⌜ length < 2 ^ 32 ⌝ }
     ensures { λ _. ⌜ now (bytes .exit) ≡ changed (λ i n. n + length) r (now (bytes .entry)) ⌝ }
     ensures { λ _. ⌜ now (held .exit) ≡ changed (λ i n. pred n) r (now (held .entry)) ⌝ }
 {
@@ -144,7 +150,7 @@ pub fn leave(
     k: usize,
     length: u32,
 )
-    requires { ⌜ k < 256 ⌝ ∗ ⌜ At-most 255 (now parents) ⌝ ∗ ⌜ getD (now depths) k 0 ≤ 8 ⌝ ∗ ⌜ At-most (2 ^ 40) (now bytes) ⌝ }
+    requires { ⌜ k < most-rows ⌝ ∗ ⌜ At-most (most-rows - 1) (now parents) ⌝ ∗ ⌜ getD (now depths) k 0 ≤ most-depth ⌝ ∗ ⌜ At-most (2 ^ 40) (now bytes) ⌝ }
     ensures { λ _. ⌜ ((tree : Tree) (box : Box) (since parent-since : List ℕ) →
         Paths tree (now (parents .entry)) (now (depths .entry)) →
         head-class (box .rows) 0 ≡ k →
@@ -165,7 +171,7 @@ pub fn leave(
 
 // Row r's word.
 fn word(words: &[u64; 256], r: usize) -> u64
-    requires { ⌜ r < 256 ⌝ }
+    requires { ⌜ r < most-rows ⌝ }
     ensures { λ x. ⌜ x ≡ getD (now (words .entry)) r 0 ⌝ }
 {
     words[r]
@@ -180,7 +186,7 @@ fn longer(x: u32) -> u64
 
 // Row r's entry, as long as a word.
 fn count(words: &[u32; 256], r: usize) -> u64
-    requires { ⌜ r < 256 ⌝ }
+    requires { ⌜ r < most-rows ⌝ }
     ensures { λ x. ⌜ x ≡ getD (now (words .entry)) r 0 ⌝ }
 {
     longer(words[r])
@@ -203,7 +209,7 @@ fn write_five(
     virtual_time: u64,
     held: u64,
 )
-    requires { ⌜ at + 5 ≤ length (now report) ⌝ }
+    requires { ⌜ at + report-words ≤ length (now report) ⌝ }
     ensures { λ _. ⌜ now (report .exit) ≡ sets (now (report .entry)) at (bytes ∷ start ∷ finish ∷ «virtual_time» ∷ held ∷ []) ⌝ }
 {
     report[at] = bytes;
@@ -224,11 +230,11 @@ fn report_row(
     held: &[u32; 256],
     report: &mut [u64],
 )
-    requires { ⌜ r < 256 ⌝ ∗ ⌜ 5 * r + 5 ≤ length (now report) ⌝ }
+    requires { ⌜ r < most-rows ⌝ ∗ ⌜ report-words * r + report-words ≤ length (now report) ⌝ }
     ensures { λ _. ⌜ ((tree : Tree) (box : Box) →
         sends tree r ≡ getD (now (senders .entry)) r false →
         Shown box (now (starts .entry)) (now (finishes .entry)) (now (virtuals .entry)) (now (bytes .entry)) (now (held .entry)) →
-        now (report .exit) ≡ sets (now (report .entry)) (5 * r) (row-report tree box r)) ⌝ }
+        now (report .exit) ≡ sets (now (report .entry)) (report-words * r) (row-report tree box r)) ⌝ }
 {
     let start = unless(r == 0, word(starts, r));
     let finish = unless(r == 0, word(finishes, r));
@@ -236,7 +242,7 @@ fn report_row(
     let virtual_time = unless(sender, word(virtuals, r));
     write_five(
         report,
-        5 * r,
+        REPORT_WORDS * r,
         word(bytes, r),
         start,
         finish,
@@ -256,7 +262,7 @@ pub fn write_report(
     held: &[u32; 256],
     report: &mut [u64],
 )
-    requires { ⌜ rows ≤ 256 ⌝ ∗ ⌜ 5 * rows ≤ length (now report) ⌝ }
+    requires { ⌜ rows ≤ most-rows ⌝ ∗ ⌜ report-words * rows ≤ length (now report) ⌝ }
     ensures { λ _. ⌜ ((tree : Tree) (box : Box) →
         Sending tree rows (now (senders .entry)) →
         Shown box (now (starts .entry)) (now (finishes .entry)) (now (virtuals .entry)) (now (bytes .entry)) (now (held .entry)) →
@@ -271,11 +277,11 @@ pub fn write_report(
 
 // The lag of a row with this share, when its parent has finished so many bytes in its backlog and it so many itself.
 fn lag_of(share: u64, parent_bytes: u64, own_bytes: u64) -> i64
-    requires { ⌜ share ≤ 840 ⌝ ∗ ⌜ «parent_bytes» ≤ 2 ^ 40 ⌝ ∗ ⌜ «own_bytes» ≤ 2 ^ 40 ⌝ }
+    requires { ⌜ share ≤ whole ⌝ ∗ ⌜ «parent_bytes» ≤ 2 ^ 40 ⌝ ∗ ⌜ «own_bytes» ≤ 2 ^ 40 ⌝ }
     ensures { λ r. ⌜ r ≡ pos (share * «parent_bytes») -ℤ pos (whole * «own_bytes») ⌝ }
 {
     let due = (share * parent_bytes) as i64;
-    let done = (840 * own_bytes) as i64;
+    let done = (WHOLE * own_bytes) as i64;
     due - done
 }
 
@@ -289,7 +295,7 @@ fn lag_at(
     since: &[u64; 256],
     parent_since: &[u64; 256],
 ) -> i64
-    requires { ⌜ r < 256 ⌝ ∗ ⌜ At-most 255 (now parents) ⌝ ∗ ⌜ At-most 840 (now shares) ⌝ ∗ ⌜ At-most (2 ^ 40) (now bytes) ⌝
+    requires { ⌜ r < most-rows ⌝ ∗ ⌜ At-most (most-rows - 1) (now parents) ⌝ ∗ ⌜ At-most whole (now shares) ⌝ ∗ ⌜ At-most (2 ^ 40) (now bytes) ⌝
         ∗ ⌜ Past (suc r) (now parents) (now bytes) (now since) (now «parent_since») ⌝ }
     ensures { λ z. ⌜ ((tree : Tree) (box : Box) →
         Shares tree (now (parents .entry)) (now (shares .entry)) →
@@ -320,8 +326,8 @@ pub fn write_lags(
     parent_since: &[u64; 256],
     lags: &mut [i64],
 )
-    requires { ⌜ rows ≤ 256 ⌝ ∗ ⌜ rows ≤ length (now lags) ⌝ }
-    requires { ⌜ At-most 255 (now parents) ⌝ ∗ ⌜ At-most 840 (now shares) ⌝ ∗ ⌜ At-most (2 ^ 40) (now bytes) ⌝
+    requires { ⌜ rows ≤ most-rows ⌝ ∗ ⌜ rows ≤ length (now lags) ⌝ }
+    requires { ⌜ At-most (most-rows - 1) (now parents) ⌝ ∗ ⌜ At-most whole (now shares) ⌝ ∗ ⌜ At-most (2 ^ 40) (now bytes) ⌝
         ∗ ⌜ Past rows (now parents) (now bytes) (now since) (now «parent_since») ⌝ }
     ensures { λ _. ⌜ ((tree : Tree) (box : Box) →
         Shares tree (now (parents .entry)) (now (shares .entry)) →

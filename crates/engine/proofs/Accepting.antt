@@ -1,32 +1,31 @@
 -- An input that is not refused: its tree, its events and its slices are what a run asks.
 -- Assumes nothing.
 use Prim.Native.Nat.{ℕ, zero, suc, _*_, _≤_, _<_}
-use mathlib.Core.Path.{_≡_, refl, sym, _∙_, ap}
-use mathlib.Core.Bool.{Bool, false, not, _||_}
+use mathlib.Core.Path.{_≡_, refl, sym, _∙_}
+use mathlib.Core.Bool.{not, _||_}
 use mathlib.Core.List.{List}
-use native.Mathlib.Decide.{decLt, ℕ-discrete}
+use mathlib.Mathlib.Data.Bool.Basic.{or-eq-false-eq-eq-false-and-eq-false as or-is-false}
+use native.Mathlib.Decide.{decLt}
 use native.Mathlib.Omega.{arith}
 use lib.Dec.{eqb, ltb}
-use lib.ListN.{length, getD, set, length-replicate}
+use lib.ListN.{length, getD, set, take, length-take}
 use lib.Seq.{getD-set-other}
 use borrow.Author.Tests.{eqb-true, ltb-false, not-false}
 use Rattle.rules.specs.Limits.{most-rows, most-depth, whole, report-words}
-use Rattle.rules.specs.Classes.{Table, Tree, zeros, with-row, read, tree-of, parent-of, share, sends}
+use Rattle.rules.specs.Classes.{Table, Tree, zeros, with-row, read, tree-of, earlier, parent-of, share}
 use Rattle.rules.specs.Events.{Events, count}
-use Rattle.rules.specs.Refusals.{Room, nothing, given, first, first-below, rows-refused, events-refused, room-refused, root-refused, row-refused, shares-refused, table-refused, refused}
+use Rattle.rules.specs.Refusals.{Room, nothing, first, first-below, rows-refused, events-refused, room-refused, root-refused, row-refused, shares-refused, table-refused, refused}
 use Rattle.laws.specs.Sound.{Sound}
-use Rattle.laws.specs.History.{Accepted}
-use Rattle.laws.proofs.Trees.{share-whole, accepted}
+use Rattle.laws.proofs.Trees.{share-whole, or-none, first-none, below-none, given-none, place-most, read-rows, read-identifiers, parent-at, share-at, accepted}
 use Rattle.laws.proofs.Outset.{zeros-at}
 use Rattle.counts.specs.Given.{Sending}
 use Rattle.tables.specs.Lent.{Sized}
 use Rattle.tables.specs.Answers.{senders-below}
-use Rattle.checks.specs.Counted.{Known, lengths-refused}
-use Rattle.tables.proofs.Firsts.{none-first, none-second, or-else-second, given-false, each-none}
-use Rattle.tables.proofs.Answering.{first-false, second-false, sized}
-use Rattle.tables.proofs.Trees.{filled, parent-read, rows-of, identifiers-of, earlier-within}
+use Rattle.checks.specs.Counted.{lengths-refused}
+use Rattle.tables.proofs.Firsts.{or-else-second}
+use Rattle.tables.proofs.Answering.{sized}
 use Rattle.checks.proofs.Rooted.{known}
-use Rattle.checks.proofs.Whole.{Listed, whole-listed}
+use Rattle.checks.proofs.Whole.{whole-listed}
 use Rattle.events.specs.State.{tree-at, Fit}
 
 tree-parts : (t : Tree) (n : ℕ) (identifiers parents depths shares : List ℕ) → n ≡ t .rows → identifiers ≡ t .identifiers → parents ≡ t .parents
@@ -60,13 +59,13 @@ module _ (table : Table) where
   abbrev rows : ℕ
   rows = length (table .identifiers)
 
-  pub tree-rows : tree-of table .rows ≡ rows
+  tree-rows : tree-of table .rows ≡ rows
   unfolding tree-of
-  tree-rows = rows-of table rows
+  tree-rows = read-rows table rows
 
-  pub tree-names : tree-of table .identifiers ≡ table .identifiers
+  tree-names : tree-of table .identifiers ≡ table .identifiers
   unfolding tree-of
-  tree-names = identifiers-of table rows
+  tree-names = read-identifiers table rows
 
   -- the arrays of a table that was read are its tree
   pub same-tree : (parents depths shares : List ℕ) → parents ≡ tree-of table .parents → depths ≡ tree-of table .depths → shares ≡ tree-of table .shares
@@ -75,8 +74,10 @@ module _ (table : Table) where
 
   module _ (few : rows ≤ most-rows) where
     parent-low : (r : ℕ) → r < rows → getD (tree-of table .parents) r 0 ≤ r
-    unfolding tree-of parent-of
-    parent-low r inside = rw (parent-read table rows r inside few) (earlier-within table r _ (omega arith))
+    unfolding tree-of parent-of earlier
+    parent-low r inside =
+        let before = take r (table .identifiers) in
+        rw (parent-at table rows few r inside) (omega (arith, place-most (getD (table .parents) r 0) before, length-take r (table .identifiers)))
 
     parents-inside : (r : ℕ) → getD (tree-of table .parents) r 0 < most-rows
     unfolding tree-of
@@ -96,11 +97,11 @@ module _ (table : Table) where
         go (no high) = omega (arith, depths-unread rows r (omega arith))
 
     shares-low : getD (table .shares) 0 0 ≡ 0 → (r : ℕ) → getD (tree-of table .shares) r 0 ≤ whole
-    unfolding tree-of read with-row zeros
+    unfolding tree-of
     shares-low root zero =
         let some : 0 < rows = omega (arith, tree-rows, sound .some-rows) in
         let few : rows ≤ most-rows = omega (arith, tree-rows, sound .few-rows) in
-        rw (filled (λ n. read table n .shares) (λ r. getD (table .shares) r 0) (length-replicate {A = ℕ} most-rows 0) (λ n. refl) 0 rows 0 some few) (omega arith)
+        omega (arith, share-at table rows few 0 some)
     shares-low root (suc r) = go (decLt (suc r) rows)
       where
         go : Dec (suc r < rows) → getD (tree-of table .shares) (suc r) 0 ≤ whole
@@ -118,22 +119,20 @@ pub record Roomy (table : Table) (events : Events) (room : Room) : Type 0 where
 
 module _ (table : Table) (events : Events) (room : Room) (ok : refused table events room .number ≡ 0) where
   rows-ok : rows-refused table .number ≡ 0
-  unfolding refused first
-  rows-ok = none-first (rows-refused table) _ ok
+  unfolding refused
+  rows-ok = first-none _ ok .0
 
   events-ok : events-refused events .number ≡ 0
-  unfolding refused first
-  events-ok = none-first (events-refused events) _ (none-second (rows-refused table) _ ok)
+  unfolding refused
+  events-ok = first-none _ ok .1 .0
 
   room-ok : room-refused table events room .number ≡ 0
-  unfolding refused first
-  room-ok = none-first (room-refused table events room) _ (none-second (events-refused events) _ (none-second (rows-refused table) _ ok))
+  unfolding refused
+  room-ok = first-none _ ok .1 .1 .0
 
   table-ok : table-refused table .number ≡ 0
-  unfolding refused first
-  table-ok =
-      none-first (table-refused table) _
-      (none-second (room-refused table events room) _ (none-second (events-refused events) _ (none-second (rows-refused table) _ ok)))
+  unfolding refused
+  table-ok = first-none _ ok .1 .1 .1 .0
 
   lengths-ok : lengths-refused table events room .number ≡ 0
   unfolding lengths-refused first nothing
@@ -145,14 +144,14 @@ module _ (table : Table) (events : Events) (room : Room) (ok : refused table eve
 
   -- the root has no share
   root-share : getD (table .shares) 0 0 ≡ 0
-  unfolding table-refused row-refused root-refused first
+  unfolding table-refused row-refused root-refused
   root-share =
       let n = length (table .identifiers) in
-      let each = each-none (row-refused table) n (none-first (first-below (row-refused table) n) (first-below (shares-refused table) n) table-ok) 0 (whole-table .some) in
-      let a = not (eqb (getD (table .parents) 0 0) 0) in
-      let b = not (eqb (getD (table .shares) 0 0) 0) in
-      let both = given-false (a || b) 6 0 (omega arith) (none-first (given (a || b) 6 0) _ (none-second (given (eqb (getD (table .identifiers) 0 0) 0) 4 0) _ each)) in
-      eqb-true (getD (table .shares) 0 0) 0 (not-false (eqb (getD (table .shares) 0 0) 0) (second-false a b both))
+      let rows-none = or-none (first-below (row-refused table) n) (first-below (shares-refused table) n) table-ok .0 in
+      let root = first-none _ (below-none (row-refused table) n rows-none 0 (whole-table .some)) in
+      let a = eqb (getD (table .parents) 0 0) 0 in
+      let b = eqb (getD (table .shares) 0 0) 0 in
+      eqb-true (getD (table .shares) 0 0) 0 (not-false b (or-is-false (not a) (not b) .0 (given-none _ _ _ (root .1 .0)) .1))
 
   pub fit : Fit (tree-of table) events
   fit =
@@ -176,15 +175,15 @@ module _ (table : Table) (events : Events) (room : Room) (ok : refused table eve
       let b = ltb (room .working) (count events) in
       let c = ltb (room .report) (report-words * n) in
       let d = ltb (room .lags) n in
-      let all = given-false (a || b || c || d) 3 0 (omega arith) room-ok in
-      let three = first-false (a || b || c) d all in
-      let two = first-false (a || b) c three in
+      let all = or-is-false (a || b || c) d .0 (given-none _ _ _ room-ok) in
+      let three = or-is-false (a || b) c .0 (all .0) in
+      let two = or-is-false a b .0 (three .0) in
       record {
-        order-room = ltb-false (room .order) (count events) (first-false a b two);
-        working-room = ltb-false (room .working) (count events) (second-false a b two);
-        report-room = ltb-false (room .report) (report-words * n) (second-false (a || b) c three);
-        lags-room = ltb-false (room .lags) n (second-false (a || b || c) d all);
+        order-room = ltb-false (room .order) (count events) (two .0);
+        working-room = ltb-false (room .working) (count events) (two .1);
+        report-room = ltb-false (room .report) (report-words * n) (three .1);
+        lags-room = ltb-false (room .lags) n (all .1);
       }
 
   pub sending : Sending (tree-of table) (length (table .identifiers)) (senders-below (tree-of table) (tree-of table .rows))
-  sending r inside = sym (known table whole-table table-ok .sending r inside)
+  sending r inside = sym (known table rows-ok table-ok .sending r inside)

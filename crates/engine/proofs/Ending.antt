@@ -1,23 +1,20 @@
 -- What a run leaves is the rules' outcome: of a refused input its refusal and all words as they were, else the results.
 -- Assumes nothing.
-use Prim.Native.Nat.{ℕ, _≤_}
-use mathlib.Core.Path.{_≡_, refl, sym, ap, _∙_, subst}
+use Prim.Native.Nat.{ℕ}
+use mathlib.Core.Path.{_≡_, ap, _∙_}
 use mathlib.Core.Logic.{_≢_}
 use mathlib.Core.List.{List}
-use lib.Dec.{eqb}
 use lib.ListN.{length, replicate}
 use lib.IntN.{ℤ}
 use borrow.Author.Tests.{eq-eqb, ne-eqb}
 use Rattle.rules.specs.declared.Refusal.{Refusal}
-use Rattle.rules.specs.declared.Answer.{Answer}
 use Rattle.rules.specs.Classes.{Table, Tree, tree-of}
 use Rattle.rules.specs.Events.{Events, count}
-use Rattle.rules.specs.Steps.{after}
 use Rattle.rules.specs.Refusals.{Room, refused}
 use Rattle.rules.specs.Outcome.{Lent, over, room-of, refusing, doing, outcome}
 use Rattle.counts.specs.Given.{Sending}
 use Rattle.tables.specs.declared.Reading.{Reading}
-use Rattle.tables.specs.Answers.{accepting, senders-below}
+use Rattle.tables.specs.Answers.{accepting}
 use Rattle.checks.specs.Counted.{checked}
 use Rattle.tables.proofs.Answering.{answer-accepts}
 use Rattle.checks.proofs.Whole.{answer-refusal}
@@ -73,7 +70,7 @@ module _ (lent : Lent) where
     refused-left some = refusal-outcome (reading .refusal) refusal-is some
 
     module _ (none : reading .refusal .number ≡ 0) where
-      pub passed : refused table events room .number ≡ 0
+      passed : refused table events room .number ≡ 0
       passed = rw refusal-is at none
 
       accepts : reading ≡ accepting (refused table events room) (tree-of table)
@@ -81,7 +78,7 @@ module _ (lent : Lent) where
       accepts = is ∙ answer-accepts (refused table events room) (tree-of table) passed
 
       -- the arrays are the table's tree
-      pub tree-is : tree-at (table .identifiers) (reading .parents) (reading .depths) (reading .shares) ≡ tree-of table
+      tree-is : tree-at (table .identifiers) (reading .parents) (reading .depths) (reading .shares) ≡ tree-of table
       unfolding accepting
       tree-is =
           same-tree table (reading .parents) (reading .depths) (reading .shares) (ap (λ (r : Reading). r .parents) accepts)

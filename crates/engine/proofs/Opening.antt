@@ -1,37 +1,31 @@
 -- The run's first state and its last: arrays of zeros, a cleared working slice, and what is read of the box then.
 -- Assumes nothing.
-use Prim.Native.Nat.{ℕ, zero, suc, _≤_, _<_}
+use Prim.Native.Nat.{ℕ, _<_}
 use mathlib.Core.Path.{_≡_, refl, sym, ap, _∙_}
-use mathlib.Core.List.{List, [], _++_}
+use mathlib.Core.List.{List, _++_}
 use native.Mathlib.Omega.{arith}
 use lib.ListN.{length, getD, drop, replicate, length-replicate, List·getD-append}
 use lib.Seq.{drop-append-seam}
 use Rattle.rules.specs.Limits.{most-rows}
 use Rattle.rules.specs.Classes.{Tree, zeros}
 use Rattle.rules.specs.Events.{Events, count}
-use Rattle.rules.specs.Box.{Rows, Box, fresh, queue-of}
+use Rattle.rules.specs.Box.{Rows, fresh}
 use Rattle.rules.specs.Steps.{after}
 use Rattle.rules.specs.Outcome.{over}
-use Rattle.laws.specs.Sound.{Sender}
-use Rattle.laws.proofs.Outset.{zeros-at, empty-queue}
+use Rattle.laws.proofs.Outset.{replicate-at, zeros-at, empty-queue}
 use Rattle.laws.proofs.Trees.{zeros-full}
 use Rattle.choosing.specs.Arrays.{rows-of}
 use Rattle.counts.specs.Given.{Shown}
-use Rattle.events.specs.Links.{last-word, Chain, Linked}
+use Rattle.events.specs.Links.{last-word, Chain}
 use Rattle.events.specs.State.{Now}
 
 -- ── a cleared slice ──
-
-replicate-zero : (n j : ℕ) → getD {A = ℕ} (replicate n 0) j 0 ≡ 0
-replicate-zero zero j = refl
-replicate-zero (suc n) zero = refl
-replicate-zero (suc n) (suc j) = replicate-zero n j
 
 cleared-at : (n j : ℕ) (lent : List ℕ) → j < n → getD (over (replicate n 0) lent) j 0 ≡ 0
 unfolding over
 cleared-at n j lent inside =
     let size = length-replicate {A = ℕ} n 0 in
-    List·getD-append (replicate n 0) (drop (length (replicate n 0)) lent) 0 j (omega arith) ∙ replicate-zero n j
+    List·getD-append (replicate n 0) (drop (length (replicate n 0)) lent) 0 j (omega arith) ∙ replicate-at n j 0
 
 pub cleared-rest : (n : ℕ) (lent cleared : List ℕ) → cleared ≡ over (replicate n 0) lent → drop n cleared ≡ drop n lent
 unfolding over

@@ -2,6 +2,7 @@
 ghost use mathlib.Core.Path.{_≡_};
 ghost use Prim.Native.Nat.{_*_, _≤_};
 ghost use lib.ListN as lists;
+ghost use Rattle.rules.specs.Limits.{report-words};
 ghost use Rattle.rules.specs.Outcome.{outcome};
 ghost use Rattle.counts.specs.Given.{Sending};
 ghost use Rattle.checks.specs.Lent.{events-of};
@@ -27,7 +28,7 @@ fn serve(
     requires { ⌜ Fit (tree-at (now identifiers) (now parents) (now depths) (now shares)) (events-of (now classes) (now lengths)) ⌝
         ∗ ⌜ Sending (tree-at (now identifiers) (now parents) (now depths) (now shares)) (lists.length (now identifiers)) (now senders) ⌝
         ∗ ⌜ lists.length (now classes) ≤ lists.length (now order) ⌝ ∗ ⌜ lists.length (now classes) ≤ lists.length (now working) ⌝ }
-    requires { ⌜ 5 * lists.length (now identifiers) ≤ lists.length (now report) ⌝ ∗ ⌜ lists.length (now identifiers) ≤ lists.length (now lags) ⌝ }
+    requires { ⌜ report-words * lists.length (now identifiers) ≤ lists.length (now report) ⌝ ∗ ⌜ lists.length (now identifiers) ≤ lists.length (now lags) ⌝ }
     ensures { λ r. ⌜ Served (tree-at (now (identifiers .entry)) (now (parents .entry)) (now (depths .entry)) (now (shares .entry)))
         (events-of (now (classes .entry)) (now (lengths .entry))) r
         (now (order .entry)) (now (order .exit)) (now (report .entry)) (now (report .exit)) (now (lags .entry)) (now (lags .exit))

@@ -1,7 +1,7 @@
 -- Rows from the tree's last on are never written: what is zero there stays zero.
 -- Assumes nothing.
 use Prim.Native.Nat.{ℕ, zero, suc, pred, _+_, _≤_, _<_}
-use mathlib.Core.Path.{_≡_, refl, sym, _∙_}
+use mathlib.Core.Path.{_≡_, refl, _∙_}
 use mathlib.Core.Logic.{_≢_, ⊎-elim}
 use mathlib.Core.Bool.{Bool, true, false, cond}
 use mathlib.Core.List.{List, [], _∷_}
@@ -13,12 +13,11 @@ use Rattle.rules.specs.declared.Why.{Why}
 use Rattle.rules.specs.declared.Why.the-variants.{Finished, Arrived}
 use Rattle.rules.specs.Classes.{Tree, parent, depth}
 use Rattle.rules.specs.Events.{Events}
-use Rattle.rules.specs.Box.{Packet, Rows, Box, fresh, start, finish, virtual, head, head-length, head-class, has-head, bytes-of, held-by}
+use Rattle.rules.specs.Box.{Packet, Rows, Box, fresh, start, finish, virtual, head-length, has-head, bytes-of, held-by}
 use Rattle.rules.specs.Steps.{on-path, along, new-head, up, arrives, leaves, renews, goes-on, arrival, departure, after}
 use Rattle.rules.specs.Promise.{within}
-use Rattle.laws.specs.Sound.{Sound, Sender}
-use Rattle.laws.specs.Moves.{Full, SameHead, SameRow}
-use Rattle.laws.specs.Kept.{Kept}
+use Rattle.laws.specs.Sound.{Sound}
+use Rattle.laws.specs.Moves.{Full, SameRow}
 use Rattle.laws.specs.History.{Accepted}
 use Rattle.laws.proofs.Heads.{same-row, then-same}
 use Rattle.laws.proofs.Paths.{climb, nearer, only-root, below-root, along-length}
@@ -28,7 +27,7 @@ use Rattle.laws.proofs.Turns.{fewer, turn}
 use Rattle.laws.proofs.Outset.{zeros-at}
 use Rattle.laws.specs.Line.{line-class, left}
 use Rattle.laws.proofs.OneEvent.{line-sender}
-use Rattle.events.proofs.Few.{kept-few, few}
+use Rattle.laws.proofs.Sizes.{few, small-kept}
 
 -- the box has nothing in row j
 pub record Nothing (box : Box) (j : ℕ) : Type 0 where
@@ -165,7 +164,7 @@ nothing-beyond tree events zero ok j beyond =
 nothing-beyond tree events (suc n) ok j beyond =
     let earlier = fewer tree events n (suc n) (omega arith) ok in
     let box = after tree events n in
-    let keeps = kept-few tree events n earlier in
+    let keeps = small-kept tree events n earlier in
     let before = nothing-beyond tree events n earlier j beyond in
     turn tree events (suc n) ok n (omega arith) (λ (box : Box). Nothing box j)
     (λ is fits. arrival-nothing tree (ok .sound) j beyond n _ _ (fits .sender .inside) box (keeps .rows-full) before)

@@ -1,29 +1,27 @@
 -- What the steps ask of the arrays, from the laws' bounds: no tag, byte count or packet count of an accepted run is large.
 -- Assumes nothing.
-use Prim.Native.Nat.{ℕ, zero, suc, _+_, _*_, _≤_, _<_, _^_}
-use mathlib.Core.Path.{_≡_, refl, sym, subst}
+use Prim.Native.Nat.{ℕ, zero, suc, _*_, _≤_, _<_, _^_}
+use mathlib.Core.Path.{_≡_}
 use mathlib.Core.List.{List}
-use native.Mathlib.Decide.{decLt, ℕ-discrete}
+use native.Mathlib.Decide.{decLt}
 use native.Mathlib.Omega.{arith}
 use lib.ListN.{getD}
-use Rattle.rules.specs.Limits.{most-rows, most-bytes, most-events, scale}
+use Rattle.rules.specs.Limits.{most-bytes, scale}
 use Rattle.rules.specs.Classes.{Tree, parent}
 use Rattle.rules.specs.Events.{Events, count, length-word}
 use Rattle.rules.specs.Box.{Box, Rows, fresh, start, finish, virtual, head-length, bytes-of, held-by}
 use Rattle.rules.specs.Steps.{arrival, departure, after}
 use Rattle.rules.specs.Promise.{within}
 use Rattle.laws.specs.History.{Accepted}
-use Rattle.laws.specs.Counts.{Below}
 use Rattle.laws.proofs.Tests.{cond-least}
 use Rattle.laws.proofs.Turns.{class-at, fewer, turn}
 use Rattle.laws.proofs.Outset.{zeros-at}
 use Rattle.laws.specs.Line.{line-class}
 use Rattle.laws.proofs.OneEvent.{mark-most, arrival-parent-since, departure-bytes}
-use Rattle.laws.proofs.Sizes.{tags-below, heads-below, bytes-below, held-below, since-below, parent-since-below}
+use Rattle.laws.proofs.Sizes.{few, small-kept, tags-below, heads-below, bytes-below, held-below, since-below, parent-since-below}
 use Rattle.hierarchy.specs.Sizes.{Small}
 use Rattle.counts.specs.Given.{At-most, Past}
 use Rattle.events.specs.State.{Fit, Ready, Now}
-use Rattle.events.proofs.Few.{few, kept-few}
 use Rattle.events.proofs.Beyond.{nothing-beyond}
 
 module _ (tree : Tree) (events : Events) (fit : Fit tree events) (i : ℕ) (before : i ≤ count events) where
@@ -54,7 +52,7 @@ module _ (tree : Tree) (events : Events) (fit : Fit tree events) (i : ℕ) (befo
         lengths = all-rows (head-length (box .rows)) most-bytes (λ r inside. heads-below tree events i r ok inside) (λ r high. nothing-beyond tree events i ok r high .length-none);
       }
 
-  pub bytes-small : (r : ℕ) → bytes-of box r ≤ 2 ^ 40
+  bytes-small : (r : ℕ) → bytes-of box r ≤ 2 ^ 40
   bytes-small =
       all-rows (bytes-of box) (2 ^ 40) (λ r inside. omega (arith, bytes-below tree events i r ok inside, fit .few))
       (λ r high. nothing-beyond tree events i ok r high .bytes-none)
@@ -64,7 +62,7 @@ module _ (tree : Tree) (events : Events) (fit : Fit tree events) (i : ℕ) (befo
       all-rows (held-by box) (2 ^ 31) (λ r inside. omega (arith, held-below tree events i r ok inside, fit .few))
       (λ r high. nothing-beyond tree events i ok r high .held-none)
 
-  pub ready : Ready (tree .rows) (tree .parents) (tree .depths) (box .rows) (box .bytes) (box .held)
+  ready : Ready (tree .rows) (tree .parents) (tree .depths) (box .rows) (box .bytes) (box .held)
   ready =
       record {
         few = fit .accepted .sound .few-rows;
@@ -90,7 +88,7 @@ root-since tree events zero ok root = omega (arith, zeros-at 0)
 root-since tree events (suc n) ok root =
     let earlier = fewer tree events n (suc n) (omega arith) ok in
     let box = after tree events n in
-    let keeps = kept-few tree events n earlier in
+    let keeps = small-kept tree events n earlier in
     let before = root-since tree events n earlier root in
     let top : parent tree 0 < tree .rows = omega (arith, ok .sound .some-rows) in
     turn tree events (suc n) ok n (omega arith) (λ (box : Box). getD (box .parent-since) 0 0 ≤ bytes-of box (parent tree 0))

@@ -1,7 +1,6 @@
 -- The theorems that the proofs of an event rest on.
 pub mod Leaving
 pub mod Links
-pub mod Few
 pub mod Beyond
 pub mod Fits
 pub mod Sending

@@ -1,6 +1,6 @@
 -- Queues stay chains: a packet that joins one is linked to its last, and a packet that leaves one was its first.
 -- Assumes nothing.
-use Prim.Native.Nat.{ℕ, zero, suc, pred, _-_, _≤_, _<_}
+use Prim.Native.Nat.{ℕ, zero, suc, _≤_, _<_}
 use mathlib.Core.Path.{_≡_, refl, sym, ap, _∙_, subst}
 use mathlib.Core.Logic.{_≢_}
 use mathlib.Core.List.{List, [], _∷_, _++_, tail}
@@ -8,14 +8,13 @@ use native.Mathlib.Decide.{ℕ-discrete}
 use native.Mathlib.Omega.{arith}
 use lib.ListN.{length, getD, set, take, drop, length-set}
 use lib.Seq.{getD-set-same, getD-set-other, drop-set-lt}
-use Rattle.rules.specs.Limits.{most-rows}
 use Rattle.rules.specs.Classes.{Tree, row-of}
 use Rattle.rules.specs.Events.{Events, count, class-word, length-word}
-use Rattle.rules.specs.Box.{Packet, Box, queue-of, head}
+use Rattle.rules.specs.Box.{Packet, Box, queue-of}
 use Rattle.rules.specs.Steps.{arrival, departure}
 use Rattle.laws.specs.Sound.{Sound, Sender}
 use Rattle.laws.specs.Kept.{InLine, Kept}
-use Rattle.laws.specs.Line.{line-class, left}
+use Rattle.laws.specs.Line.{line-class}
 use Rattle.laws.proofs.Queues.{each-queue}
 use Rattle.hierarchy.specs.Next.{next-of}
 use Rattle.queues.specs.Words.{followed, shortened, length-of}
@@ -24,7 +23,7 @@ use Rattle.queues.proofs.Words.{shortened-none, shortened-some}
 
 -- ── one word written ──
 
-pub followed-other : (links : List ℕ) (n word j : ℕ) → n ≢ suc j → getD (followed links n word) j 0 ≡ getD links j 0
+followed-other : (links : List ℕ) (n word j : ℕ) → n ≢ suc j → getD (followed links n word) j 0 ≡ getD links j 0
 unfolding followed
 followed-other links zero word j other = refl
 followed-other links (suc n) word j other = getD-set-other links n j word 0 (λ same. other (ap suc (sym same)))

@@ -1,7 +1,7 @@
 -- One event of an accepted run: what its step may take for granted, and that the arrays are those of the next box then.
 -- Assumes nothing.
-use Prim.Native.Nat.{ℕ, zero, suc, pred, _+_, _-_, _≤_, _<_}
-use mathlib.Core.Path.{_≡_, refl, sym, ap, _∙_, subst}
+use Prim.Native.Nat.{ℕ, suc, _+_, _-_, _≤_, _<_}
+use mathlib.Core.Path.{_≡_, refl, sym, ap, _∙_}
 use mathlib.Core.Logic.{_≢_}
 use mathlib.Core.Bool.{Bool, true, false, cond}
 use mathlib.Core.List.{List, [], _∷_, _++_, tail}
@@ -10,7 +10,6 @@ use lib.Dec.{eqb}
 use native.Mathlib.Numerals.{add-one}
 use lib.ListN.{length, getD, set, take, drop, length-append}
 use lib.Seq.{sets}
-use Rattle.rules.specs.declared.Event.{Event}
 use Rattle.rules.specs.declared.Event.the-variants.{Arrival, Finish}
 use Rattle.rules.specs.Limits.{most-rows, most-bytes, most-events}
 use Rattle.rules.specs.Classes.{Tree, row-of}
@@ -22,7 +21,6 @@ use Rattle.rules.specs.Outcome.{over}
 use Rattle.laws.specs.Sound.{Sound, Sender, ArrivalFits}
 use Rattle.laws.specs.Moves.{SameHead}
 use Rattle.laws.specs.Kept.{Kept, HeadOf}
-use Rattle.laws.specs.History.{Accepted}
 use Rattle.laws.proofs.Heads.{has-true}
 use Rattle.laws.proofs.Trees.{arrival-fits, finish-fits}
 use Rattle.laws.proofs.Turns.{fewer}
@@ -30,12 +28,12 @@ use Rattle.laws.proofs.DeparturePath.{leaves-idle}
 use Rattle.laws.specs.Line.{line-class, left}
 use Rattle.laws.proofs.OneEvent.{line-sender, left-line}
 use Rattle.laws.proofs.Keeping.{class-head}
+use Rattle.laws.proofs.Sizes.{few, small-kept}
 use Rattle.hierarchy.specs.Next.{next-of}
 use Rattle.counts.specs.Given.{Counts}
 use Rattle.queues.specs.Words.{followed, shortened, length-of, sent-word}
-use Rattle.events.specs.Links.{first-word, last-word, Chain, Linked}
+use Rattle.events.specs.Links.{first-word, Chain}
 use Rattle.events.specs.State.{Fit, Now}
-use Rattle.events.proofs.Few.{few, kept-few}
 use Rattle.events.proofs.Links.{followed-beyond, last-before, first-before, chain-first, chain-length, joined, parted}
 use Rattle.events.proofs.Sending.{sent-arrived, sent-finished, order-most, order-more, sent-word-most}
 
@@ -47,7 +45,7 @@ module _ (tree : Tree) (events : Events) (fit : Fit tree events) (i : ℕ) (insi
   sound = fit .accepted .sound
 
   keeps : Kept tree few i box
-  keeps = kept-few tree events i (fewer tree events i (count events) (omega arith) (fit .accepted))
+  keeps = small-kept tree events i (fewer tree events i (count events) (omega arith) (fit .accepted))
 
   not-refused : meeting-refused tree i (length-word events i) (event events i) (idle box) .number ≡ 0
   unfolding event-refused

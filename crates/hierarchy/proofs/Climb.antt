@@ -1,4 +1,4 @@
--- The way from a row up to the root, a turn of a loop at a time: what remains at the next row is what remained at this one.
+-- The path from a row up to the root, a turn of a loop at a time: what remains at the next row is what remained at this one.
 -- Assumes nothing.
 use Prim.Native.Nat.{ℕ, zero, suc, _-_, _<_}
 use mathlib.Core.Path.{_≡_, refl, sym, _∙_}
@@ -17,16 +17,16 @@ use Rattle.choosing.proofs.Parts.{head-part}
 -- ── choosing ──
 
 module _ (tree : Tree) (why : Why) (r : ℕ) (rows : Rows) where
-  pub up-done : (d : ℕ) → d ≡ 0 → up d tree why r rows ≡ rows
+  up-done : (d : ℕ) → d ≡ 0 → up d tree why r rows ≡ rows
   unfolding up
   up-done d none = rw none
 
-  pub up-stops : (d : ℕ) → 0 < d → has-head rows (parent tree r) ≡ true → up d tree why r rows ≡ rows
+  up-stops : (d : ℕ) → 0 < d → has-head rows (parent tree r) ≡ true → up d tree why r rows ≡ rows
   unfolding up
   up-stops zero some has = absurd (omega arith)
   up-stops (suc d) some has = rw (has, up)
 
-  pub up-goes : (d : ℕ) → 0 < d → has-head rows (parent tree r) ≡ false
+  up-goes : (d : ℕ) → 0 < d → has-head rows (parent tree r) ≡ false
       → up d tree why r rows ≡ up (d - 1) tree why (parent tree r) (chooses tree why (parent tree r) rows)
   unfolding up
   up-goes zero some has = absurd (omega arith)
@@ -63,15 +63,15 @@ module _ (n : ℕ) (parents shares : List ℕ) (why : Why) (row depth : ℕ) (be
 
 -- ── clearing ──
 
-abbrev pub clear : ℕ → ℕ → ℕ
+abbrev clear : ℕ → ℕ → ℕ
 clear r n = 0
 
 module _ (tree : Tree) (r : ℕ) (xs : List ℕ) where
-  pub path-done : (d : ℕ) → d ≡ 0 → on-path d tree clear r xs ≡ set xs r 0
+  path-done : (d : ℕ) → d ≡ 0 → on-path d tree clear r xs ≡ set xs r 0
   unfolding on-path
   path-done d none = rw none
 
-  pub path-goes : (d : ℕ) → 0 < d → on-path d tree clear r xs ≡ on-path (d - 1) tree clear (parent tree r) (set xs r 0)
+  path-goes : (d : ℕ) → 0 < d → on-path d tree clear r xs ≡ on-path (d - 1) tree clear (parent tree r) (set xs r 0)
   unfolding on-path
   path-goes zero some = absurd (omega arith)
   path-goes (suc d) some = rw sub-one

@@ -66,11 +66,11 @@ or-none x y ok = go (eqb (x .number) 0) refl ok
     go false e ok = absurd (eqb-false (x .number) 0 e ok)
 
 -- none of a list refuses
-abbrev None : List Refusal → Type 0
+abbrev pub None : List Refusal → Type 0
 None [] = Unit
 None (x ∷ xs) = (x .number ≡ 0) × None xs
 
-first-none : (xs : List Refusal) → first xs .number ≡ 0 → None xs
+pub first-none : (xs : List Refusal) → first xs .number ≡ 0 → None xs
 unfolding first
 first-none [] ok = tt
 first-none (x ∷ xs) ok = let both = or-none x (first xs) ok in (both .0, first-none xs (both .1))
@@ -96,7 +96,7 @@ given-none false number place ok = refl
 -- ── places in a list ──
 
 -- no place is past the list's end
-place-most : (x : ℕ) (ys : List ℕ) → place-of x ys ≤ length ys
+pub place-most : (x : ℕ) (ys : List ℕ) → place-of x ys ≤ length ys
 unfolding place-of
 place-most x [] = omega arith
 place-most x (y ∷ ys) = go (eqb x y) (place-most x ys)
@@ -134,16 +134,16 @@ fill-at entry (suc n) r below few = go (ℕ-discrete r n) (fill-at entry n r)
 
 module _ (table : Table) where
   -- the depth that row r gets when it is read
-  depth-read : ℕ → ℕ
+  unfoldable pub depth-read : ℕ → ℕ
   depth-read r = cond (eqb r 0) 0 (suc (depth (read table r) (parent-of table r)))
 
   -- each list of the tree, after the first n rows
-  read-rows : (n : ℕ) → read table n .rows ≡ n
+  pub read-rows : (n : ℕ) → read table n .rows ≡ n
   unfolding read with-row
   read-rows zero = refl
   read-rows (suc n) = refl
 
-  read-identifiers : (n : ℕ) → read table n .identifiers ≡ table .identifiers
+  pub read-identifiers : (n : ℕ) → read table n .identifiers ≡ table .identifiers
   unfolding read with-row
   read-identifiers zero = refl
   read-identifiers (suc n) = read-identifiers n
@@ -173,13 +173,13 @@ module _ (table : Table) where
       omega arith
 
   module _ (n : ℕ) (few : n ≤ most-rows) where
-    parent-at : (r : ℕ) → r < n → parent (read table n) r ≡ parent-of table r
+    pub parent-at : (r : ℕ) → r < n → parent (read table n) r ≡ parent-of table r
     parent-at r below = rw (read-parents n) (fill-at (parent-of table) n r below few)
 
-    share-at : (r : ℕ) → r < n → share (read table n) r ≡ getD (table .shares) r 0
+    pub share-at : (r : ℕ) → r < n → share (read table n) r ≡ getD (table .shares) r 0
     share-at r below = rw (read-shares n) (fill-at (λ r. getD (table .shares) r 0) n r below few)
 
-    depth-at : (r : ℕ) → r < n → depth (read table n) r ≡ depth-read r
+    pub depth-at : (r : ℕ) → r < n → depth (read table n) r ≡ depth-read r
     depth-at r below = rw (read-depths n) (fill-at depth-read n r below few)
 
   -- a row is one deeper than its parent: the rows that are read later leave both depths as they were

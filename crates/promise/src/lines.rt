@@ -12,6 +12,8 @@ use output::put_text;
 use sentences::word;
 use sheet::Figure;
 
+const MOST_ROWS: usize = 256;
+
 // Prints the sheet of each sending class, in row order.
 pub fn print<'a>(
     largest: u32,
@@ -25,7 +27,7 @@ pub fn print<'a>(
     let mut out = [0u8; 8192];
     let mut sink = put_heading(&mut out, onto(STDOUT_FILENO), largest, own);
     let mut row = 0;
-    while row < 256 {
+    while row < MOST_ROWS {
         sink = put_row(
             &mut out,
             sink,

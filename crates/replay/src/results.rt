@@ -11,6 +11,12 @@ use output::put_then;
 use rules::Answer;
 use sentences::put_answer;
 
+// Words of the report for a row.
+const REPORT_WORDS: usize = 5;
+
+// The rows that are held: one more than a table may have, so that a row too many is seen.
+const HELD_ROWS: usize = 257;
+
 // Prints the answer and, of a done run, the results, and answers whether all of it was written.
 pub fn print<'a>(
     answer: Answer,
@@ -82,7 +88,7 @@ fn put_row(
 fn put_report(out: &mut [u8; 8192], sink: Sink, report: &[u64], row: usize) -> Sink {
     let mut sink = sink;
     let mut j = 0;
-    while j < 5 {
+    while j < REPORT_WORDS {
         sink = put_number(out, sink, word(report, row, j));
         sink = put_byte(out, sink, 44);
         j += 1;
@@ -92,9 +98,9 @@ fn put_report(out: &mut [u8; 8192], sink: Sink, report: &[u64], row: usize) -> S
 
 // A row's number of the report, 0 past its end.
 fn word(report: &[u64], row: usize, j: usize) -> u64 {
-    if row < 257 {
-        if j < 5 {
-            let at = row * 5 + j;
+    if row < HELD_ROWS {
+        if j < REPORT_WORDS {
+            let at = row * REPORT_WORDS + j;
             if at < report.len() {
                 return report[at];
             }

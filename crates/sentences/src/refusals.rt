@@ -1,6 +1,7 @@
 // A refusal as one sentence for a person: where it is and what to mend.
 ghost use mathlib.Core.Path.{_≡_};
-ghost use Prim.Native.Nat.{_<_, _^_};
+ghost use Prim.Native.Nat.{suc, _<_, _^_};
+ghost use Rattle.rules.specs.Limits.{most-rows};
 ghost use Rattle.sentences.specs.Named as named;
 use crate::names::put_class;
 use crate::names::put_event;
@@ -14,6 +15,11 @@ use output::put_named;
 use output::put_number;
 use output::put_text;
 use rules::Answer;
+
+const MOST_ROWS: usize = 256;
+
+// The rows that a program holds: one more than a table may have, so that a row too many is seen.
+const HELD_ROWS: u32 = 257;
 
 // A refusal of a run.
 pub fn sentence<'a>(
@@ -235,13 +241,13 @@ fn sum<'a>(
     put_text(out, sink, b"; bring them to 840 or less.")
 }
 
-// The shares of the rows with this parent together. A column has at most 257 words.
+// The shares of the rows with this parent together.
 fn children_share(identifier: u32, parents: &[u32], shares: &[u32]) -> u64
-    ensures { λ r. ⌜ r ≡ named.shares-under identifier (now (parents .entry)) (now (shares .entry)) 257 ⌝ }
+    ensures { λ r. ⌜ r ≡ named.shares-under identifier (now (parents .entry)) (now (shares .entry)) (suc most-rows) ⌝ }
 {
     let mut sum = 0;
     let mut row = 0;
-    while row < 257 {
+    while row < HELD_ROWS {
         sum += share_under(identifier, word(parents, row), word(shares, row));
         row += 1;
     }
@@ -292,7 +298,7 @@ fn row_with(identifiers: &[u32], identifier: u32) -> u32
     ensures { λ r. ⌜ r ≡ named.row-with identifier (now (identifiers .entry)) ⌝ }
 {
     let row = tables::row_of(identifiers, identifier);
-    if row < 256 {
+    if row < MOST_ROWS {
         return row as u32;
     }
     0

@@ -13,6 +13,7 @@ use borrow.Author.Tests.{eq-eqb, ne-eqb}
 use Rattle.rules.specs.declared.Refusal.{Refusal}
 use Rattle.rules.specs.Classes.{Table, earlier}
 use Rattle.rules.specs.Refusals.{nothing, given, or-else, first, first-below, doubled, root-refused, class-refused, row-refused, shares-refused, table-refused}
+use Rattle.laws.proofs.Trees.{or-none}
 
 -- ── two ──
 
@@ -24,22 +25,7 @@ pub or-else-second : (a b : Refusal) → a .number ≡ 0 → or-else a b ≡ b
 unfolding or-else
 or-else-second a b none = rw (eq-eqb (a .number) 0 none)
 
-pub none-first : (a b : Refusal) → or-else a b .number ≡ 0 → a .number ≡ 0
-none-first a b none = go (ℕ-discrete (a .number) 0)
-  where
-    go : Dec (a .number ≡ 0) → a .number ≡ 0
-    go (yes here) = here
-    go (no some) = rw (or-else-first a b some) at none
-
-pub none-second : (a b : Refusal) → or-else a b .number ≡ 0 → b .number ≡ 0
-none-second a b none = rw (or-else-second a b (none-first a b none)) at none
-
 -- ── a test that is given a number ──
-
-pub given-false : (test : Bool) (number place : ℕ) → number ≢ 0 → given test number place .number ≡ 0 → test ≡ false
-unfolding given
-given-false true number place some none = absurd (some none)
-given-false false number place some none = refl
 
 pub given-last : (test : Bool) (number place : ℕ) → number ≢ 0 → or-else (given test number place) nothing ≡ given test number place
 unfolding given nothing
@@ -61,7 +47,7 @@ unfolding given
 given-plain test number place = test-plain test number place 0
 
 pub or-else-plain : (a b : Refusal) → Plain a → Plain b → Plain (or-else a b)
-or-else-plain a b plain-a plain-b none = or-else-second a b (none-first a b none) ∙ plain-b (none-second a b none)
+or-else-plain a b plain-a plain-b none = let both = or-none a b none in or-else-second a b (both .0) ∙ plain-b (both .1)
 
 pub last-plain : (a : Refusal) → Plain a → Plain (or-else a nothing)
 last-plain a plain = or-else-plain a nothing plain (λ e. refl)
@@ -121,13 +107,3 @@ module _ (at : ℕ → Refusal) where
       go : Dec (i ≡ n) → (i < n → first-below at n ≡ at i) → or-else (first-below at n) (at n) ≡ at i
       go (yes same) before = rw (← same) (or-else-second (first-below at i) (at i) none)
       go (no other) before = rw (before (omega arith)) (or-else-first (at i) (at n) some)
-
-  -- where none is refused, each is not
-  pub each-none : (n : ℕ) → first-below at n .number ≡ 0 → (i : ℕ) → i < n → at i .number ≡ 0
-  unfolding first-below
-  each-none zero none i below = absurd (omega arith)
-  each-none (suc n) none i below = go (ℕ-discrete i n) (λ lower. each-none n (none-first (first-below at n) (at n) none) i lower)
-    where
-      go : Dec (i ≡ n) → (i < n → at i .number ≡ 0) → at i .number ≡ 0
-      go (yes same) before = rw same (none-second (first-below at n) (at n) none)
-      go (no other) before = before (omega arith)

@@ -2,12 +2,9 @@
 -- Assumes nothing.
 use Prim.Native.Nat.{ℕ, zero, suc, _≤_, _<_}
 use mathlib.Core.Path.{_≡_, refl, sym, _∙_, ap}
-use mathlib.Core.Bool.{Bool, true, false, cond}
 use mathlib.Core.Logic.{_≢_}
 use mathlib.Core.List.{List, [], _∷_}
-use native.Mathlib.Nat.{le-refl}
 use native.Mathlib.Omega.{arith}
-use lib.Dec.{eqb}
 use lib.ListN.{length, getD, take}
 use lib.Seq.{getD-take, length-take-le}
 use borrow.Author.Tests.{eq-eqb, ne-eqb}
@@ -46,13 +43,3 @@ module _ (x : ℕ) (words : List ℕ) (n : ℕ) (within : n ≤ length words) wh
       found-none x (take n words)
       (λ j below same. let few = rw (length-take-le n words within) at below in none j few (sym (getD-take n words j 0 few) ∙ same))
       ∙ length-take-le n words within
-
--- a place is at most the list's length
-pub place-within : (x : ℕ) (xs : List ℕ) → place-of x xs ≤ length xs
-unfolding place-of
-place-within x [] = le-refl 0
-place-within x (y ∷ ys) = go (eqb x y) (place-within x ys)
-  where
-    go : (b : Bool) → place-of x ys ≤ length ys → cond b 0 (suc (place-of x ys)) ≤ suc (length ys)
-    go true rest = omega arith
-    go false rest = omega arith

@@ -4,6 +4,7 @@ ghost use mathlib.Core.Path.{_≡_};
 ghost use mathlib.Core.Bool.{cond};
 ghost use Prim.Native.Nat.{_≤_, _<_, _^_};
 ghost use lib.ListN.{length, take};
+ghost use Rattle.rules.specs.Limits.{most-rows};
 ghost use Rattle.rules.specs.Classes.{Tree, Table, place-of, read, tree-of, share, child, has-child, sends, children-share};
 ghost use Rattle.rules.specs.Refusals.{nothing, given, or-else, first-below, rows-refused, root-refused, shares-refused, table-refused};
 ghost use Rattle.tables.specs.Lent.{table-of, Sized};
@@ -152,7 +153,7 @@ fn class_refused(
     share: u32,
     depth: u32,
 ) -> Refusal
-    requires { ⌜ r < 256 ⌝ }
+    requires { ⌜ r < most-rows ⌝ }
     ensures { λ f. ⌜ f ≡ class-refusal r identifier earlier parent share depth ⌝ }
 {
     if identifier == 0 {
@@ -237,7 +238,7 @@ fn wide(x: u32) -> usize
 
 // Whether row r is a child of row p.
 fn child(parents: &[u32; 256], p: usize, r: usize) -> bool
-    requires { ⌜ r < 256 ⌝ }
+    requires { ⌜ r < most-rows ⌝ }
     ensures { λ b. ⌜ ((tree : Tree) → tree .parents ≡ now (parents .entry) → b ≡ child tree p r) ⌝ }
 {
     if r == 0 {
@@ -248,7 +249,7 @@ fn child(parents: &[u32; 256], p: usize, r: usize) -> bool
 
 // The share of row r if it is a child of row p.
 fn child_share(parents: &[u32; 256], shares: &[u32; 256], p: usize, r: usize) -> usize
-    requires { ⌜ r < 256 ⌝ }
+    requires { ⌜ r < most-rows ⌝ }
     ensures { λ s. ⌜ (s < 2 ^ 32) × ((tree : Tree) → tree .parents ≡ now (parents .entry) → tree .shares ≡ now (shares .entry)
         → s ≡ cond (child tree p r) (share tree r) 0) ⌝ }
 {
@@ -260,7 +261,7 @@ fn child_share(parents: &[u32; 256], shares: &[u32; 256], p: usize, r: usize) ->
 
 // The shares of row p's children, added up.
 fn children_share(parents: &[u32; 256], shares: &[u32; 256], p: usize, rows: usize) -> usize
-    requires { ⌜ rows ≤ 256 ⌝ }
+    requires { ⌜ rows ≤ most-rows ⌝ }
     ensures { λ s. ⌜ ((tree : Tree) → tree .parents ≡ now (parents .entry) → tree .shares ≡ now (shares .entry)
         → s ≡ children-share tree p rows) ⌝ }
 {
@@ -275,7 +276,7 @@ fn children_share(parents: &[u32; 256], shares: &[u32; 256], p: usize, rows: usi
 
 // 10, at the lowest parent row.
 fn shares_refused(parents: &[u32; 256], shares: &[u32; 256], rows: usize) -> Refusal
-    requires { ⌜ rows ≤ 256 ⌝ }
+    requires { ⌜ rows ≤ most-rows ⌝ }
     ensures { λ f. ⌜ ((table : Table) → length (table .identifiers) ≡ rows
         → tree-of table .parents ≡ now (parents .entry) → tree-of table .shares ≡ now (shares .entry)
         → f ≡ first-below (shares-refused table) rows) ⌝ }
@@ -292,7 +293,7 @@ fn shares_refused(parents: &[u32; 256], shares: &[u32; 256], rows: usize) -> Ref
 
 // Whether row p has a child.
 fn has_child(parents: &[u32; 256], p: usize, rows: usize) -> bool
-    requires { ⌜ rows ≤ 256 ⌝ }
+    requires { ⌜ rows ≤ most-rows ⌝ }
     ensures { λ b. ⌜ ((tree : Tree) → tree .parents ≡ now (parents .entry) → b ≡ has-child tree p rows) ⌝ }
 {
     let mut r = 0;
@@ -307,7 +308,7 @@ fn has_child(parents: &[u32; 256], p: usize, rows: usize) -> bool
 
 // Whether row r is a sending class.
 fn sends(parents: &[u32; 256], r: usize, rows: usize) -> bool
-    requires { ⌜ rows ≤ 256 ⌝ }
+    requires { ⌜ rows ≤ most-rows ⌝ }
     ensures { λ b. ⌜ ((tree : Tree) → tree .parents ≡ now (parents .entry) → tree .rows ≡ rows → b ≡ sends tree r) ⌝ }
 {
     if r == 0 {
@@ -318,7 +319,7 @@ fn sends(parents: &[u32; 256], r: usize, rows: usize) -> bool
 
 // Which rows are sending classes.
 fn senders_of(parents: &[u32; 256], rows: usize) -> [bool; 256]
-    requires { ⌜ rows ≤ 256 ⌝ }
+    requires { ⌜ rows ≤ most-rows ⌝ }
     ensures { λ s. ⌜ ((tree : Tree) → tree .parents ≡ now (parents .entry) → tree .rows ≡ rows → s ≡ senders-below tree rows) ⌝ }
 {
     let mut senders = [false; 256];

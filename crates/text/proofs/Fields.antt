@@ -1,6 +1,6 @@
 -- A field by all its bytes: digits alone, one or more, are the number that they spell, or too large a one; anything else is no number.
 -- Assumes nothing.
-use Prim.Native.Nat.{ℕ, _+_, _-_, _*_, _≤_, _<_}
+use Prim.Native.Nat.{ℕ, _+_, _-_, _*_, _≤_}
 use mathlib.Core.Path.{_≡_, refl, ap}
 use mathlib.Core.Bool.{Bool, true, false, _&&_}
 use mathlib.Core.List.{List, [], _∷_}
@@ -8,7 +8,7 @@ use native.Mathlib.Omega.{arith}
 use lib.Dec.{leb}
 use borrow.Author.Tests.{leb-true, leb-false, le-leb, lt-leb}
 use Rattle.text.specs.declared.Field.{Field}
-use Rattle.text.specs.declared.Field.the-variants.{Empty, Number, Over, Other}
+use Rattle.text.specs.declared.Field.the-variants.{Empty, Number, Other}
 use Rattle.text.specs.Reading.{most, number-or-over, with-digit, with-byte}
 
 -- here a field's bytes stand in a list with the last one first

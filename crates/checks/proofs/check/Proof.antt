@@ -13,7 +13,7 @@ use Rattle.checks.specs.Lent.{events-of, room-of}
 use Rattle.checks.specs.Counted.{lengths-refused, counted-refused, checked, Known}
 use Rattle.tables.proofs.Answering.{answer-refuses}
 use Rattle.checks.proofs.Rooted.{known}
-use Rattle.checks.proofs.Whole.{answer-refusal, answer-senders, by-lengths, by-table, by-list, by-none, whole-sized, whole-listed}
+use Rattle.checks.proofs.Whole.{answer-refusal, answer-senders, by-lengths, by-table, by-list, by-none, whole-rows, whole-sized, whole-listed}
 use Rattle.checks.proofs.check.Statement.{statement}
 use Rattle.checks.proofs.check.Tie as tie
 
@@ -64,7 +64,7 @@ module _ (e : tie.After-list-refused) where
       (tree-of (table l)) fine in
       e .list-refused .ensures (tree-of (table l))
       (subst (λ (senders : List Bool). Known (tree-of (table l)) (table l .identifiers) senders) (sym found)
-      (known (table l) (whole-sized (table l) (events l) (room l) none) fine))
+      (known (table l) (whole-rows (table l) (events l) (room l) none) fine))
 
 check-lengths-requires : tie.Need-check-lengths-requires
 check-lengths-requires c κs = search needs

@@ -12,8 +12,9 @@ use mir.ValLaws.{toZ-ofZ}
 use Rattle.rules.specs.Classes.{Tree}
 use Rattle.rules.specs.Box.{Box}
 use Rattle.rules.specs.Outcome.{lag, lags-of, over}
+use Rattle.rules.proofs.Results.{lags-length}
 use Rattle.counts.specs.Given.{Shares, Counts}
-use Rattle.counts.proofs.Written.{over-more, length-lags}
+use Rattle.counts.proofs.Written.{over-more}
 use Rattle.counts.proofs.write_lags.Statement.{statement}
 use Rattle.counts.proofs.write_lags.Tie as tie
 
@@ -65,7 +66,7 @@ loop-again c =
       simp length-set (at .loop .inv .1),
       λ tree box by counts.
           rw (toZ-ofZ w64 (c .lag-at .result) (record { sfits = c .lag-at .ok }), c .lag-at .ensures tree box by counts, add-one)
-          (over-more (lags-of tree box r) (lag tree box r ∷ []) _ _ r (length-lags tree box r) (omega (arith, at .before .pre))
+          (over-more (lags-of tree box r) (lag tree box r ∷ []) _ _ r (lags-length tree box r) (omega (arith, at .before .pre))
           (at .loop .inv .2 tree box by counts)),
     )
 

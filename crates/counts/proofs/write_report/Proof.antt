@@ -9,8 +9,9 @@ use lib.ListN.{length}
 use Rattle.rules.specs.Classes.{Tree}
 use Rattle.rules.specs.Box.{Box}
 use Rattle.rules.specs.Outcome.{row-report, report-of, over}
+use Rattle.rules.proofs.Results.{report-length}
 use Rattle.counts.specs.Given.{Sending, Shown}
-use Rattle.counts.proofs.Written.{over-more, length-report}
+use Rattle.counts.proofs.Written.{over-more}
 use Rattle.counts.proofs.write_report.Statement.{statement}
 use Rattle.counts.proofs.write_report.Tie as tie
 
@@ -46,7 +47,7 @@ loop-again c =
       called .report-row .kept .1 .1 .1 .1 .1 .1 .1 .0 ∙ at .loop .inv .1,
       λ tree box sending shown.
           rw (called .report-row .ensures tree box (sending r (omega arith)) shown, add-one)
-          (over-more (report-of tree box r) (row-report tree box r) _ _ (5 * r) (length-report tree box r) (omega (arith, at .before .before .pre))
+          (over-more (report-of tree box r) (row-report tree box r) _ _ (5 * r) (report-length tree box r) (omega (arith, at .before .before .pre))
           (at .loop .inv .2 tree box sending shown)),
     )
 

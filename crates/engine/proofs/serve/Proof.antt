@@ -1,10 +1,9 @@
 -- `engine::serve` meets its contract. The loop's invariant: the arrays are the box after the events passed, and the order so far is written.
 -- Assumes nothing.
-use Prim.Native.Nat.{ℕ, _-_, _≤_}
+use Prim.Native.Nat.{_-_, _≤_}
 use mathlib.Core.Path.{_≡_, refl, sym, _∙_}
 use native.Mathlib.Numerals.{add-one}
 use native.Mathlib.Omega.{arith}
-use borrow.Author.Needs.{needs}
 use lib.ListN.{length, drop}
 use Rattle.rules.specs.Classes.{Tree}
 use Rattle.rules.specs.Events.{Events, count}

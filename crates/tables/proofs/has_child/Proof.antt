@@ -7,7 +7,7 @@ use native.Mathlib.Numerals.{add-one}
 use native.Mathlib.Omega.{arith}
 use borrow.Author.Needs.{needs}
 use Rattle.rules.specs.Classes.{Tree, has-child}
-use Rattle.tables.proofs.Children.{child-found}
+use Rattle.laws.proofs.Paths.{has-kid}
 use Rattle.tables.proofs.has_child.Statement.{statement}
 use Rattle.tables.proofs.has_child.Tie as tie
 
@@ -28,7 +28,7 @@ returns : tie.Need-returns Inv-loop μ-loop
 returns c tree e =
     let s = c .before .before .before .before in
     let at = c .before .before .before .loop in
-    sym (child-found tree (s .args .p) (at .r) (s .args .rows) (omega arith) (sym (c .before .child .ensures tree e) ∙ c .if1 .taken))
+    sym (has-kid tree (s .args .p) (at .r) (s .args .rows) (omega arith) (sym (c .before .child .ensures tree e) ∙ c .if1 .taken))
 
 add-r : tie.Need-add-r Inv-loop μ-loop
 add-r c = search needs

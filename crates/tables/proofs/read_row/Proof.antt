@@ -5,8 +5,7 @@ use native.Mathlib.Omega.{arith}
 use borrow.Author.Needs.{needs}
 use Rattle.rules.specs.Classes.{Table, earlier, parent-of}
 use Rattle.tables.specs.Lent.{table-of}
-use Rattle.tables.proofs.Trees.{depth-small}
-use Rattle.tables.proofs.OneRow.{root-row, class-row}
+use Rattle.tables.proofs.OneRow.{depth-small, root-row, class-row}
 use Rattle.tables.proofs.read_row.Statement.{statement}
 use Rattle.tables.proofs.read_row.Tie as tie
 

@@ -1,6 +1,6 @@
 -- `tables::row_of` meets its contract: all rows are looked at.
 -- Assumes nothing.
-use mathlib.Core.Path.{_≡_, _∙_, ap}
+use mathlib.Core.Path.{_∙_, ap}
 use lib.Seq.{take-length}
 use borrow.Author.Needs.{needs}
 use Rattle.rules.specs.Classes.{place-of}

@@ -1,6 +1,6 @@
 -- `first` meets its contract: what is lent is within the words, by its test.
 -- Assumes nothing.
-use mathlib.Core.Path.{_≡_, sym}
+use mathlib.Core.Path.{sym}
 use native.Mathlib.Omega.{arith}
 use lib.ListN.{length-take}
 use lib.Seq.{take-all}

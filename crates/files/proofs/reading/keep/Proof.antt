@@ -1,6 +1,6 @@
 -- `keep` meets its contract: a store past the end changes nothing.
 -- Assumes nothing.
-use mathlib.Core.Path.{_≡_, sym}
+use mathlib.Core.Path.{sym}
 use lib.Seq.{set-out}
 use borrow.Author.Needs.{needs}
 use Rattle.files.proofs.reading.keep.Statement.{statement}

@@ -1,6 +1,6 @@
 -- `children_share` meets its contract: the sum so far is that of the rows passed, and has room for 257 shares.
 -- Assumes nothing.
-use Prim.Native.Nat.{_+_, _≤_, _*_, _-_}
+use Prim.Native.Nat.{_≤_, _*_, _-_}
 use mathlib.Core.Path.{_≡_, refl}
 use native.Mathlib.Numerals.{add-one}
 use native.Mathlib.Omega.{arith}

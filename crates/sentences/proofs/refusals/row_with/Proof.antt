@@ -1,6 +1,5 @@
 -- `row_with` meets its contract, by its test.
 -- Assumes nothing.
-use mathlib.Core.Path.{_≡_}
 use borrow.Author.Tests.{lt-ltb, le-ltb}
 use borrow.Author.Needs.{needs}
 use Rattle.sentences.specs.Named.{row-with}
