@@ -1,17 +1,16 @@
 -- What a loop writes over a lent slice: words after those that it has written; a row of the report.
 -- Assumes nothing.
-use Prim.Native.Nat.{ℕ, zero, suc, _+_, _≤_}
-use mathlib.Core.Bool.{Bool, cond}
+use Prim.Native.Nat.{ℕ, zero, suc, _+_, _*_, _≤_}
+use mathlib.Core.Bool.{Bool}
 use mathlib.Core.Path.{_≡_, refl, ap, _∙_}
 use mathlib.Core.List.{List, [], _∷_, _++_}
 use native.Mathlib.Omega.{arith}
-use lib.Dec.{eqb}
-use lib.ListN.{length, getD, drop, take, replicate, length-append, length-drop}
+use lib.ListN.{length, drop, take, replicate, length-append, length-drop}
 use lib.Seq.{sets, sets-eq, take-append-seam, drop-append-add, drop-drop}
 use Rattle.rules.specs.Classes.{Tree, sends}
 use Rattle.rules.specs.Box.{Box}
 use Rattle.rules.specs.Outcome.{row-report, over}
-use Rattle.counts.specs.Given.{Shown}
+use Rattle.counts.specs.Given.{Shown, row-words}
 
 module _ {A : Type 0} where
   length-over : (ws lent : List A) → length ws ≤ length lent → length (over ws lent) ≡ length lent
@@ -34,12 +33,12 @@ pub replicate-more : (n : ℕ) → _≡_ {A = List ℕ} (replicate (suc n) 0) (r
 replicate-more zero = refl
 replicate-more (suc n) = ap (λ (xs : List ℕ). 0 ∷ xs) (replicate-more n)
 
--- a row's words, from the lists that hold them
-pub row-words : (tree : Tree) (box : Box) (r : ℕ) (hidden : Bool) (starts finishes virtuals bytes held : List ℕ)
+-- a row's words, from the lists that hold them, are the row's report
+pub row-reported : (tree : Tree) (box : Box) (r : ℕ) (hidden : Bool) (starts finishes virtuals bytes held before now : List ℕ)
     → sends tree r ≡ hidden
     → Shown box starts finishes virtuals bytes held
-    → getD bytes r 0 ∷ cond (eqb r 0) 0 (getD starts r 0) ∷ cond (eqb r 0) 0 (getD finishes r 0) ∷ cond hidden 0 (getD virtuals r 0) ∷ getD held r 0 ∷ []
-    ≡ row-report tree box r
+    → now ≡ sets before (5 * r) (row-words hidden starts finishes virtuals bytes held r)
+    → now ≡ sets before (5 * r) (row-report tree box r)
 unfolding row-report
-row-words tree box r hidden starts finishes virtuals bytes held sending shown =
-    rw (sending, shown .starts, shown .finishes, shown .virtuals, shown .bytes, shown .held)
+row-reported tree box r hidden starts finishes virtuals bytes held before now sending shown written =
+    rw (sending, shown .starts, shown .finishes, shown .virtuals, shown .bytes, shown .held) written

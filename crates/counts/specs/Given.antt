@@ -3,7 +3,7 @@
 use Prim.Native.Nat.{ℕ, _≤_, _<_}
 use mathlib.Core.Bool.{Bool, false, cond}
 use mathlib.Core.Path.{_≡_}
-use mathlib.Core.List.{List, []}
+use mathlib.Core.List.{List, [], _∷_}
 use lib.Dec.{eqb}
 use lib.ListN.{getD, set}
 use Rattle.rules.specs.Limits.{most-rows}
@@ -70,3 +70,13 @@ changed f r xs = set xs r (f r (getD xs r 0))
 -- a tree with these paths and nothing else
 abbrev pub paths : List ℕ → List ℕ → Tree
 paths parents depths = record { rows = 0; identifiers = []; parents = parents; depths = depths; shares = [] }
+
+-- the report's words for row r, whose virtual time is hidden or not, from the lists that hold them
+abbrev pub row-words : Bool → List ℕ → List ℕ → List ℕ → List ℕ → List ℕ → ℕ → List ℕ
+row-words hidden starts finishes virtuals bytes held r =
+    getD bytes r 0
+    ∷ cond (eqb r 0) 0 (getD starts r 0)
+    ∷ cond (eqb r 0) 0 (getD finishes r 0)
+    ∷ cond hidden 0 (getD virtuals r 0)
+    ∷ getD held r 0
+    ∷ []

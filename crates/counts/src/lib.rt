@@ -8,11 +8,11 @@ ghost use lib.ListN.{length, getD, replicate};
 ghost use lib.Seq.{sets};
 ghost use lib.IntN.{pos, _-ℤ_};
 ghost use Rattle.rules.specs.Limits.{most-rows, most-depth, whole, report-words};
-ghost use Rattle.rules.specs.Classes.{Tree, sends};
+ghost use Rattle.rules.specs.Classes.{Tree};
 ghost use Rattle.rules.specs.Box.{Box, head-class, head-length};
 ghost use Rattle.rules.specs.Steps.{along, arrival, departure};
-ghost use Rattle.rules.specs.Outcome.{row-report, report-of, lag, lags-of, over};
-ghost use Rattle.counts.specs.Given.{At-most, Paths, Shares, Sending, Counts, Shown, Past, own, above, begun, changed, paths};
+ghost use Rattle.rules.specs.Outcome.{report-of, lag, lags-of, over};
+ghost use Rattle.counts.specs.Given.{At-most, Paths, Shares, Sending, Counts, Shown, Past, own, above, begun, changed, paths, row-words};
 
 // The parts that make a whole.
 const WHOLE: u64 = 840;
@@ -231,10 +231,9 @@ fn report_row(
     report: &mut [u64],
 )
     requires { ⌜ r < most-rows ⌝ ∗ ⌜ report-words * r + report-words ≤ length (now report) ⌝ }
-    ensures { λ _. ⌜ ((tree : Tree) (box : Box) →
-        sends tree r ≡ getD (now (senders .entry)) r false →
-        Shown box (now (starts .entry)) (now (finishes .entry)) (now (virtuals .entry)) (now (bytes .entry)) (now (held .entry)) →
-        now (report .exit) ≡ sets (now (report .entry)) (report-words * r) (row-report tree box r)) ⌝ }
+    ensures { λ _. ⌜ now (report .exit) ≡ sets (now (report .entry)) (report-words * r)
+        (row-words (getD (now (senders .entry)) r false) (now (starts .entry)) (now (finishes .entry)) (now (virtuals .entry))
+        (now (bytes .entry)) (now (held .entry)) r) ⌝ }
 {
     let start = unless(r == 0, word(starts, r));
     let finish = unless(r == 0, word(finishes, r));
@@ -251,7 +250,8 @@ fn report_row(
     );
 }
 
-// The report: five words for each row, which it has room for; the words after them stay.
+// The report: five words for each row, which it has room for; the words after them stay. The root is no sending class, as in
+// every tree.
 pub fn write_report(
     rows: usize,
     senders: &[bool; 256],
@@ -262,7 +262,7 @@ pub fn write_report(
     held: &[u32; 256],
     report: &mut [u64],
 )
-    requires { ⌜ rows ≤ most-rows ⌝ ∗ ⌜ report-words * rows ≤ length (now report) ⌝ }
+    requires { ⌜ rows ≤ most-rows ⌝ ∗ ⌜ report-words * rows ≤ length (now report) ⌝ ∗ ⌜ (0 < rows → getD (now senders) 0 false ≡ false) ⌝ }
     ensures { λ _. ⌜ ((tree : Tree) (box : Box) →
         Sending tree rows (now (senders .entry)) →
         Shown box (now (starts .entry)) (now (finishes .entry)) (now (virtuals .entry)) (now (bytes .entry)) (now (held .entry)) →

@@ -1,7 +1,6 @@
 -- `counts::report_row` meets its contract: the five words are the row's.
 -- Assumes nothing.
 use borrow.Author.Needs.{needs}
-use Rattle.counts.proofs.Written.{row-words}
 use Rattle.counts.proofs.report_row.Statement.{statement}
 use Rattle.counts.proofs.report_row.Tie as tie
 
@@ -42,12 +41,11 @@ same-length : tie.Need-same-length
 same-length c = search needs
 
 returns : tie.Need-returns
-returns c tree box sending shown =
+returns c =
     let written = c .before .before in
     let hidden3 = written .before .before .before .before in
     let hidden2 = hidden3 .before .before .before in
     rw (
-      ← row-words tree box _ _ _ _ _ _ _ sending shown,
       ← hidden2 .before .before .before .word .ensures,
       ← hidden2 .before .before .unless .ensures,
       ← hidden2 .before .word2 .ensures,

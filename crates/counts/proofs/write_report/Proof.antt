@@ -11,7 +11,7 @@ use Rattle.rules.specs.Box.{Box}
 use Rattle.rules.specs.Outcome.{row-report, report-of, over}
 use Rattle.rules.proofs.Results.{report-length}
 use Rattle.counts.specs.Given.{Sending, Shown}
-use Rattle.counts.proofs.Written.{over-more}
+use Rattle.counts.proofs.Written.{over-more, row-reported}
 use Rattle.counts.proofs.write_report.Statement.{statement}
 use Rattle.counts.proofs.write_report.Tie as tie
 
@@ -46,8 +46,9 @@ loop-again c =
       search needs,
       called .report-row .kept .1 .1 .1 .1 .1 .1 .1 .0 ∙ at .loop .inv .1,
       λ tree box sending shown.
-          rw (called .report-row .ensures tree box (sending r (omega arith)) shown, add-one)
-          (over-more (report-of tree box r) (row-report tree box r) _ _ (5 * r) (report-length tree box r) (omega (arith, at .before .before .pre))
+          rw add-one
+          (row-reported tree box r _ _ _ _ _ _ (at .loop .report) _ (sending r (omega arith)) shown (called .report-row .ensures)
+          ∙ over-more (report-of tree box r) (row-report tree box r) _ _ (5 * r) (report-length tree box r) (omega (arith, at .before .before .pre))
           (at .loop .inv .2 tree box sending shown)),
     )
 

@@ -5,7 +5,7 @@ use mathlib.Core.Path.{_≡_, refl, sym, _∙_}
 use native.Mathlib.Numerals.{add-one}
 use native.Mathlib.Omega.{arith}
 use lib.ListN.{length, drop}
-use Rattle.rules.specs.Classes.{Tree}
+use Rattle.rules.specs.Classes.{Tree, sends}
 use Rattle.rules.specs.Events.{Events, count}
 use Rattle.rules.specs.Box.{Rows, Box}
 use Rattle.rules.specs.Steps.{after}
@@ -122,9 +122,10 @@ loop-again c =
     )
 
 write-report-requires : tie.Need-write-report-requires Inv-loop μ-loop
+unfolding sends
 write-report-requires c κs =
     let s = begun (c .before .before .before .before .before .before) in
-    (fit s .accepted .sound .few-rows, s .pre .1 .1 .1 .1 .0)
+    (fit s .accepted .sound .few-rows, (s .pre .1 .1 .1 .1 .0, λ some. sym (s .pre .1 .0 0 some)))
 
 write-lags-requires : tie.Need-write-lags-requires Inv-loop μ-loop
 write-lags-requires c κs =
