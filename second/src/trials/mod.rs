@@ -24,7 +24,7 @@ pub use random::Random;
 pub use show::difference;
 pub use shrink::shrink;
 pub use steady::steady_case;
-pub use tables::{allowed_shares, fresh_identifier, greatest_share, random_table, Shape};
+pub use tables::{allowed_shares, fresh_identifier, greatest_share, random_table, Shape, SHAPES};
 
 pub const MOST_ROWS: usize = 256;
 pub const MOST_EVENTS: usize = 65_536;

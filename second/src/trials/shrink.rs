@@ -103,19 +103,27 @@ impl Shrinker<'_> {
         self.keep(table, events);
     }
 
-    /// Drops stretches of events, large ones first and those at the end first.
-    fn drop_events(&mut self) -> bool {
-        let before = self.events.len();
-        let mut size = before;
+    /// Tries stretches of the lines below the heading, large ones first and those at the end first.
+    fn each_stretch(
+        &mut self,
+        lines: fn(&Self) -> usize,
+        mut try_out: impl FnMut(&mut Self, usize, usize),
+    ) {
+        let mut size = lines(self);
         while size > 0 {
-            let mut end = self.events.len();
+            let mut end = lines(self);
             while end > 1 && !self.is_late() {
                 let start = end.saturating_sub(size).max(1);
-                self.drop_stretch(start, end);
-                end = start.min(self.events.len());
+                try_out(self, start, end);
+                end = start.min(lines(self));
             }
             size /= 2;
         }
+    }
+
+    fn drop_events(&mut self) -> bool {
+        let before = self.events.len();
+        self.each_stretch(|shrink| shrink.events.len(), Self::drop_stretch);
         self.events.len() < before
     }
 
@@ -136,18 +144,14 @@ impl Shrinker<'_> {
 
     fn drop_rows(&mut self) -> bool {
         let before = self.table.len();
-        let mut size = before;
-        while size > 0 {
-            let mut end = self.table.len();
-            while end > 1 && !self.is_late() {
-                let start = end.saturating_sub(size).max(1);
-                let mut rest = self.table.clone();
+        self.each_stretch(
+            |shrink| shrink.table.len(),
+            |shrink, start, end| {
+                let mut rest = shrink.table.clone();
                 rest.drain(start..end);
-                self.keep(rest, self.events.clone());
-                end = start;
-            }
-            size /= 2;
-        }
+                shrink.keep(rest, shrink.events.clone());
+            },
+        );
         self.table.len() < before
     }
 

@@ -29,6 +29,19 @@ pub enum Shape {
     Full,
 }
 
+/// All shapes.
+pub const SHAPES: [Shape; 9] = [
+    Shape::Flat,
+    Shape::Chain,
+    Shape::Deep,
+    Shape::Wide,
+    Shape::Any,
+    Shape::Even,
+    Shape::Groups,
+    Shape::Two,
+    Shape::Full,
+];
+
 /// A table that is accepted. Its first class has the given share where that fits.
 pub fn random_table(shape: Shape, first_share: u32, random: &mut Random) -> Vec<Row> {
     let names = identifiers(random);
@@ -245,18 +258,6 @@ mod tests {
 
     use super::*;
     use crate::trials::Case;
-
-    const SHAPES: [Shape; 9] = [
-        Shape::Flat,
-        Shape::Chain,
-        Shape::Deep,
-        Shape::Wide,
-        Shape::Any,
-        Shape::Even,
-        Shape::Groups,
-        Shape::Two,
-        Shape::Full,
-    ];
 
     fn tables(shape: Shape) -> impl Iterator<Item = Vec<Row>> {
         (0..200).map(move |list| random_table(shape, 840, &mut Random::new(1, list)))

@@ -5,7 +5,8 @@ use std::os::unix::ffi::OsStrExt;
 
 use crate::damage::damage;
 use crate::faults::{put_in, Fault, NOT_DIGITS, TOO_LARGE};
-use second::trials::{allowed_shares, random_table, Case, Files, Random, Row, Shape, MOST_EVENTS};
+use second::trials::{allowed_shares, random_table, Case, Files, Random, Row, Shape};
+use second::trials::{MOST_EVENTS, SHAPES};
 
 #[derive(Clone, Copy, Debug, PartialEq, Eq)]
 pub enum Manner {
@@ -23,18 +24,6 @@ pub enum Manner {
 
 /// All refusals of a table.
 const REFUSALS: [u32; 8] = [1, 4, 5, 6, 7, 8, 9, 10];
-
-const SHAPES: [Shape; 9] = [
-    Shape::Flat,
-    Shape::Chain,
-    Shape::Deep,
-    Shape::Wide,
-    Shape::Any,
-    Shape::Even,
-    Shape::Groups,
-    Shape::Two,
-    Shape::Full,
-];
 
 /// Shares that do not divide 840, so that figures become fractions.
 const AWKWARD: [u32; 8] = [9, 25, 49, 64, 441, 576, 784, 800];
