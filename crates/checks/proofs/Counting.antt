@@ -4,13 +4,14 @@ use Prim.Native.Nat.{ℕ, zero, suc, _<_}
 use mathlib.Core.Path.{_≡_, refl, sym, _∙_, ap}
 use mathlib.Core.List.{[], _∷_}
 use native.Mathlib.Decide.{ℕ-discrete}
-use Rattle.rules.specs.declared.Refusal.{Refusal}
-use Rattle.rules.specs.Classes.{Table, Tree, tree-of}
-use Rattle.rules.specs.Events.{Events, count, length-word, event}
-use Rattle.rules.specs.Refusals.{Room, nothing, or-else, first, first-below, rows-refused, events-refused, room-refused, table-refused, meeting-refused, event-refused, refused}
+use Rattle.input.specs.declared.Refusal.{Refusal}
+use Rattle.input.specs.Classes.{Table, Tree, tree-of}
+use Rattle.input.specs.Events.{Events, count, length-word, event}
+use Rattle.input.specs.Refusals.{Room, nothing, or-else, first, first-below, rows-refused, events-refused, room-refused, table-refused, meeting-refused}
+use Rattle.rules.specs.Refused.{event-refused, refused}
 use Rattle.laws.specs.Sound.{Sound}
-use Rattle.laws.proofs.Trees.{or-none, below-none, sound}
-use Rattle.laws.proofs.Idle.{idle-is-counted}
+use Rattle.laws.proofs.tree.Trees.{or-none, below-none, sound}
+use Rattle.laws.proofs.run.Idle.{idle-is-counted}
 use Rattle.checks.specs.Counted.{counted-refused, lengths-refused}
 use Rattle.tables.proofs.Firsts.{or-else-first, first-append}
 

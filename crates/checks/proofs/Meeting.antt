@@ -9,14 +9,14 @@ use native.Mathlib.Omega.{arith}
 use lib.Dec.{eqb, leb}
 use lib.ListN.{length, getD}
 use borrow.Author.Tests.{eq-eqb, ne-eqb, eqb-false}
-use Rattle.rules.specs.declared.Event.{Event}
-use Rattle.rules.specs.declared.Event.the-variants.{Arrival, Finish}
-use Rattle.rules.specs.declared.Refusal.{Refusal}
-use Rattle.rules.specs.Classes.{Tree, place-of, row-of}
-use Rattle.rules.specs.Events.{Events, class-word, length-word, decode, event}
+use Rattle.input.specs.declared.Event.{Event}
+use Rattle.input.specs.declared.Event.the-variants.{Arrival, Finish}
+use Rattle.input.specs.declared.Refusal.{Refusal}
+use Rattle.input.specs.Classes.{Tree, place-of, row-of}
+use Rattle.input.specs.Events.{Events, class-word, length-word, decode, event}
 use Rattle.rules.specs.Promise.{within, for-part, one-arrival, one-finish, arrived, finish-count}
-use Rattle.rules.specs.Refusals.{nothing, given, or-else, first, first-below, meeting-refused}
-use Rattle.laws.proofs.Trees.{first-none, given-none, place-most}
+use Rattle.input.specs.Refusals.{nothing, given, or-else, first, first-below, meeting-refused}
+use Rattle.laws.proofs.tree.Trees.{first-none, given-none, place-most}
 use Rattle.tables.specs.Answers.{refusal-of}
 use Rattle.checks.specs.Counted.{packet-refusal, counted-refused, Known}
 use Rattle.tables.proofs.Firsts.{Plain, or-else-second, given-plain, or-else-plain, last-plain, below-plain, stopped}

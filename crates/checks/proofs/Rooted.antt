@@ -7,12 +7,12 @@ use native.Mathlib.Decide.{ℕ-discrete}
 use native.Mathlib.Omega.{arith}
 use lib.ListN.{length, getD, set, length-set, length-replicate}
 use lib.Seq.{getD-set-same, getD-set-other}
-use Rattle.rules.specs.Limits.{most-rows}
-use Rattle.rules.specs.Classes.{Table, Tree, tree-of, sends}
-use Rattle.rules.specs.Refusals.{rows-refused, table-refused}
+use Rattle.input.specs.Limits.{most-rows}
+use Rattle.input.specs.Classes.{Table, Tree, tree-of, sends}
+use Rattle.input.specs.Refusals.{rows-refused, table-refused}
 use Rattle.laws.specs.Sound.{Sound}
-use Rattle.laws.proofs.Paths.{root-within}
-use Rattle.laws.proofs.Trees.{read-rows, read-identifiers, sound}
+use Rattle.laws.proofs.tree.Paths.{root-within}
+use Rattle.laws.proofs.tree.Trees.{read-rows, read-identifiers, sound}
 use Rattle.tables.specs.Answers.{senders-below}
 use Rattle.checks.specs.Counted.{Known}
 

@@ -8,13 +8,14 @@ use mathlib.Mathlib.Data.Bool.Basic.{or-eq-false-eq-eq-false-and-eq-false as or-
 use lib.Dec.{eqb, ltb}
 use lib.ListN.{length}
 use borrow.Author.Tests.{eqb-true, ltb-false, not-false}
-use Rattle.rules.specs.declared.Refusal.{Refusal}
-use Rattle.rules.specs.Limits.{most-events}
-use Rattle.rules.specs.Classes.{Table, Tree, tree-of}
-use Rattle.rules.specs.Events.{Events, count}
-use Rattle.rules.specs.Refusals.{Room, nothing, or-else, first-below, rows-refused, events-refused, table-refused, refused}
-use Rattle.laws.proofs.Trees.{first-none, given-none}
-use Rattle.tables.specs.Lent.{Sized}
+use Rattle.input.specs.declared.Refusal.{Refusal}
+use Rattle.input.specs.Limits.{most-events}
+use Rattle.input.specs.Classes.{Table, Tree, tree-of}
+use Rattle.input.specs.Events.{Events, count}
+use Rattle.input.specs.Refusals.{Room, nothing, or-else, first-below, rows-refused, events-refused, table-refused}
+use Rattle.rules.specs.Refused.{refused}
+use Rattle.laws.proofs.tree.Trees.{first-none, given-none}
+use Rattle.tables.specs.Sized.{Sized}
 use Rattle.tables.specs.Answers.{senders-below, accepting, refusing, answer}
 use Rattle.checks.specs.Counted.{counted-refused, lengths-refused}
 use Rattle.tables.proofs.Firsts.{or-else-first, or-else-second, table-plain}

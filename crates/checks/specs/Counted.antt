@@ -5,12 +5,13 @@ use mathlib.Core.Bool.{Bool, true, false, not, _||_}
 use mathlib.Core.List.{List, [], _∷_}
 use lib.Dec.{leb, ltb}
 use lib.ListN.{length, getD}
-use Rattle.rules.specs.declared.Refusal.{Refusal}
-use Rattle.rules.specs.Limits.{least-bytes, most-bytes, report-words}
-use Rattle.rules.specs.Classes.{Table, Tree, tree-of, sends}
-use Rattle.rules.specs.Events.{Events, length-word, event}
+use Rattle.input.specs.declared.Refusal.{Refusal}
+use Rattle.input.specs.Limits.{least-bytes, most-bytes, report-words}
+use Rattle.input.specs.Classes.{Table, Tree, tree-of, sends}
+use Rattle.input.specs.Events.{Events, length-word, event}
 use Rattle.rules.specs.Promise.{within, arrived, finish-count}
-use Rattle.rules.specs.Refusals.{Room, given, first, rows-refused, events-refused, room-refused, meeting-refused, refused}
+use Rattle.input.specs.Refusals.{Room, given, first, rows-refused, events-refused, room-refused, meeting-refused}
+use Rattle.rules.specs.Refused.{refused}
 use Rattle.tables.specs.declared.Reading.{Reading}
 use Rattle.tables.specs.Answers.{answer}
 

@@ -1,3 +1,2 @@
 -- What the checks' contracts cite.
-pub mod Lent
 pub mod Counted

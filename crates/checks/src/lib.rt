@@ -4,17 +4,16 @@ ghost use mathlib.Core.Bool.{Bool};
 ghost use Prim.Native.Nat.{ℕ, _≤_, _<_, _^_};
 ghost use lib.ListN.{length};
 ghost use lib.ListN as lists;
-ghost use Rattle.rules.specs.declared.Event.the-variants.{Arrival, Finish};
-ghost use Rattle.rules.specs.Limits.{most-rows, most-events};
-ghost use Rattle.rules.specs.Classes.{Tree};
-ghost use Rattle.rules.specs.Events.{decode};
+ghost use Rattle.input.specs.declared.Event.the-variants.{Arrival, Finish};
+ghost use Rattle.input.specs.Limits.{most-rows, most-events};
+ghost use Rattle.input.specs.Classes.{Tree};
+ghost use Rattle.input.specs.Events.{decode};
 ghost use Rattle.rules.specs.Promise.{one-arrival, one-finish};
-ghost use Rattle.rules.specs.Refusals.{first-below, events-refused, meeting-refused};
-ghost use Rattle.tables.specs.Lent.{table-of};
-ghost use Rattle.checks.specs.Lent.{events-of, room-of};
+ghost use Rattle.input.specs.Refusals.{first-below, events-refused, meeting-refused};
+ghost use Rattle.input.specs.Lent.{table-of, events-of, room-with};
 ghost use Rattle.checks.specs.Counted.{room-refusal, lengths-refused, packet-refusal, counted-refused, checked, Known};
-use rules::Event;
-use rules::Refusal;
+use input::Event;
+use input::Refusal;
 use tables::Reading;
 
 const MOST_EVENTS: usize = 65536;
@@ -49,7 +48,7 @@ fn room_refused(
     working: usize,
 ) -> Refusal
     requires { ⌜ rows < 2 ^ 61 ⌝ }
-    ensures { λ r. ⌜ r ≡ room-refusal rows events (room-of order report lags working) ⌝ }
+    ensures { λ r. ⌜ r ≡ room-refusal rows events (room-with order report lags working) ⌝ }
 {
     if order < events {
         return tables::refusal(3, 0, 0);
@@ -69,7 +68,7 @@ fn room_refused(
 // The check of the lengths: those of the lent slices of a table and of an event list, and those of the result slices.
 pub fn check_lengths(
     identifiers: &[u32],
-    parents: &[u32],
+    parent_identifiers: &[u32],
     shares: &[u32],
     classes: &[u32],
     lengths: &[u32],
@@ -78,10 +77,10 @@ pub fn check_lengths(
     lags: usize,
     working: usize,
 ) -> Refusal
-    ensures { λ r. ⌜ r ≡ lengths-refused (table-of (now (identifiers .entry)) (now (parents .entry)) (now (shares .entry)))
-        (events-of (now (classes .entry)) (now (lengths .entry))) (room-of order report lags working) ⌝ }
+    ensures { λ r. ⌜ r ≡ lengths-refused (table-of (now (identifiers .entry)) (now («parent_identifiers» .entry)) (now (shares .entry)))
+        (events-of (now (classes .entry)) (now (lengths .entry))) (room-with order report lags working) ⌝ }
 {
-    let rows = tables::rows_refused(identifiers, parents, shares);
+    let rows = tables::rows_refused(identifiers, parent_identifiers, shares);
     let events = events_refused(classes, lengths);
     let room = room_refused(
         identifiers.len(),
@@ -225,7 +224,7 @@ fn list_refused(
 // The check of a whole input.
 pub fn check(
     identifiers: &[u32],
-    parents: &[u32],
+    parent_identifiers: &[u32],
     shares: &[u32],
     classes: &[u32],
     lengths: &[u32],
@@ -234,12 +233,12 @@ pub fn check(
     lags: usize,
     working: usize,
 ) -> Reading
-    ensures { λ r. ⌜ r ≡ checked (table-of (now (identifiers .entry)) (now (parents .entry)) (now (shares .entry)))
-        (events-of (now (classes .entry)) (now (lengths .entry))) (room-of order report lags working) ⌝ }
+    ensures { λ r. ⌜ r ≡ checked (table-of (now (identifiers .entry)) (now («parent_identifiers» .entry)) (now (shares .entry)))
+        (events-of (now (classes .entry)) (now (lengths .entry))) (room-with order report lags working) ⌝ }
 {
     let unfit = check_lengths(
         identifiers,
-        parents,
+        parent_identifiers,
         shares,
         classes,
         lengths,
@@ -251,7 +250,7 @@ pub fn check(
     if unfit.number != 0 {
         return tables::refusing(unfit);
     }
-    let reading = tables::read_sized(identifiers, parents, shares);
+    let reading = tables::read_sized(identifiers, parent_identifiers, shares);
     let bad = reading.refusal;
     if bad.number != 0 {
         return reading;

@@ -1,7 +1,7 @@
 // Answers the questions about the checks that stand on standard input, one a line, as `stdin` explains; for a refusal it prints
 // number, place and second place.
-use rules::Event;
-use rules::Refusal;
+use input::Event;
+use input::Refusal;
 use tables::Reading;
 
 // Room for the lists of the largest question: 257 rows, 65,537 events, and four lengths.

@@ -8,7 +8,7 @@ use lib.Dec.{leb}
 use lib.ListN.{getD}
 use Rattle.rules.specs.declared.Why.{Why}
 use Rattle.rules.specs.declared.Why.the-variants.{Finished, Arrived}
-use Rattle.rules.specs.Classes.{Tree, child}
+use Rattle.input.specs.Classes.{Tree, child}
 use Rattle.rules.specs.Box.{Rows, has-head}
 use Rattle.rules.specs.Steps.{waits, eligible, least, raised, pick, next-start}
 use Rattle.choosing.specs.Arrays.{headed, waiting, ready, raised-of, next-start-of}

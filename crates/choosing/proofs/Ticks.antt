@@ -9,14 +9,14 @@ use lib.Dec.{eqb}
 use lib.ListN.{getD, set}
 use Rattle.rules.specs.declared.Why.{Why}
 use Rattle.rules.specs.declared.Why.the-variants.{Finished, Arrived}
-use Rattle.rules.specs.Limits.{ticks, most-bytes, scale}
-use Rattle.rules.specs.Shares.{cost, charge}
-use Rattle.rules.specs.Classes.{Tree, parent}
+use Rattle.input.specs.Limits.{ticks, most-bytes, scale}
+use Rattle.input.specs.Shares.{cost, charge}
+use Rattle.input.specs.Classes.{Tree, parent}
 use Rattle.rules.specs.Box.{Rows, start, virtual}
 use Rattle.rules.specs.Steps.{with-virtual, next-start, waits, least, raised}
-use Rattle.choosing.specs.Arrays as arrays
+use Rattle.input.specs.Lent.{tree-with}
 use Rattle.choosing.specs.Arrays.{raised-of, next-start-of}
-use Rattle.choosing.specs.Sizes.{Room, most-charge, most-passed}
+use Rattle.choosing.specs.Sizes.{Leeway, most-charge, most-passed}
 use Rattle.choosing.proofs.Parts.{raised-part, next-start-part}
 
 -- a share is at least one part, or 0, which costs nothing: no packet is charged more than the scale a byte
@@ -32,16 +32,16 @@ written P (y ∷ ys) zero x new old (suc j) = old (suc j)
 written P (y ∷ ys) (suc i) x new old zero = old zero
 written P (y ∷ ys) (suc i) x new old (suc j) = written P ys i x new (λ j. old (suc j)) j
 
-pub less-room : (m n : ℕ) (rows : Rows) → n ≤ m → Room m rows → Room n rows
+pub less-room : (m n : ℕ) (rows : Rows) → n ≤ m → Leeway m rows → Leeway n rows
 less-room m n rows less room =
     record {
       starts = λ i. let h = room .starts i in omega arith;
       finishes = λ i. let h = room .finishes i in omega arith;
       virtuals = λ i. let h = room .virtuals i in omega arith;
-      lengths = room .lengths;
+      head-lengths = room .head-lengths;
     }
 
-module _ (n : ℕ) (tree : Tree) (rows : Rows) (room : Room n rows) where
+module _ (n : ℕ) (tree : Tree) (rows : Rows) (room : Leeway n rows) where
   pub next-start-room : (why : Why) (r : ℕ) → next-start tree why r rows + n < 2 ^ 64
   unfolding next-start
   next-start-room Finished r = room .finishes r
@@ -59,33 +59,33 @@ module _ (n : ℕ) (tree : Tree) (rows : Rows) (room : Room n rows) where
       go false = let a = room .virtuals p in let b = room .starts first in omega arith
 
 -- a row's finish, charged from where its next packet starts, fits
-pub charged-fits : {rows : Rows} → Room most-charge rows
+pub charged-fits : {rows : Rows} → Leeway most-charge rows
     → (parents : List ℕ) (why : Why) (r length share : ℕ) → length ≤ most-bytes
     → next-start-of parents (rows .finishes) (rows .virtuals) why r + charge length share < 2 ^ 64
 charged-fits {rows} room parents why r length share short =
-    let small = next-start-room most-charge (arrays.tree 0 [] parents [] []) rows room why r in
-    let same = next-start-part (arrays.tree 0 [] parents [] []) rows why r in
+    let small = next-start-room most-charge (tree-with 0 [] parents [] []) rows room why r in
+    let same = next-start-part (tree-with 0 [] parents [] []) rows why r in
     let cheap = charge-most length share short in
     omega arith
 
 -- the raised virtual time has the room that the tags have
-pub raised-fits : {n : ℕ} {rows : Rows} → Room n rows → (m : ℕ) (parents : List ℕ) (p : ℕ)
+pub raised-fits : {n : ℕ} {rows : Rows} → Leeway n rows → (m : ℕ) (parents : List ℕ) (p : ℕ)
     → raised-of m parents (rows .starts) (rows .virtuals) (rows .heads) p + n < 2 ^ 64
 raised-fits {n} {rows} room m parents p =
-    let small = raised-room n (arrays.tree m [] parents [] []) rows room p in
-    let same = raised-part (arrays.tree m [] parents [] []) rows p in
+    let small = raised-room n (tree-with m [] parents [] []) rows room p in
+    let same = raised-part (tree-with m [] parents [] []) rows p in
     omega arith
 
-pub passed-room : (n v : ℕ) (rows : Rows) → v + (n + most-passed) < 2 ^ 64 → Room (n + most-passed) rows
-    → (p length : ℕ) → length ≤ most-bytes → Room n (with-virtual p (v + ticks * length) rows)
+pub passed-room : (n v : ℕ) (rows : Rows) → v + (n + most-passed) < 2 ^ 64 → Leeway (n + most-passed) rows
+    → (p length : ℕ) → length ≤ most-bytes → Leeway n (with-virtual p (v + ticks * length) rows)
 unfolding with-virtual
 passed-room n v rows small room p length short =
     record {
       starts = rest .starts;
       finishes = rest .finishes;
       virtuals = written (λ (t : ℕ). t + n < 2 ^ 64) (rows .virtuals) p (v + ticks * length) (omega arith) (rest .virtuals);
-      lengths = room .lengths;
+      head-lengths = room .head-lengths;
     }
   where
-    rest : Room n rows
+    rest : Leeway n rows
     rest = less-room (n + most-passed) n rows (omega arith) room

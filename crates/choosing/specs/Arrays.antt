@@ -1,21 +1,17 @@
--- The arrays that are lent to the steps, as the rules' tree and rows.
+-- The arrays that are lent to the steps, as the rules' rows.
 use Prim.Native.Nat.{ℕ, _<_}
 use mathlib.Core.Bool.{Bool}
 use mathlib.Core.List.{List, []}
 use lib.ListN.{getD}
 use Rattle.rules.specs.declared.Why.{Why}
-use Rattle.rules.specs.Limits.{most-rows}
-use Rattle.rules.specs.Classes.{Tree}
+use Rattle.input.specs.Limits.{most-rows}
+use Rattle.input.specs.Lent.{tree-with}
 use Rattle.rules.specs.Box.{Rows, has-head}
 use Rattle.rules.specs.Steps.{waits, eligible, raised, next-start}
 
-abbrev pub tree : ℕ → List ℕ → List ℕ → List ℕ → List ℕ → Tree
-tree rows identifiers parents depths shares =
-    record { rows = rows; identifiers = identifiers; parents = parents; depths = depths; shares = shares }
-
 abbrev pub rows-of : List ℕ → List ℕ → List ℕ → List ℕ → List ℕ → List ℕ → Rows
-rows-of starts finishes virtuals heads lengths classes =
-    record { starts = starts; finishes = finishes; virtuals = virtuals; heads = heads; lengths = lengths; classes = classes }
+rows-of starts finishes virtuals heads head-lengths head-classes =
+    record { starts = starts; finishes = finishes; virtuals = virtuals; heads = heads; head-lengths = head-lengths; head-classes = head-classes }
 
 -- every parent is a row that there can be
 abbrev pub Inside : List ℕ → Type 0
@@ -27,13 +23,13 @@ abbrev pub headed : List ℕ → ℕ → Bool
 headed heads r = has-head (rows-of [] [] [] heads [] []) r
 
 abbrev pub waiting : List ℕ → List ℕ → ℕ → ℕ → Bool
-waiting parents heads p r = waits (tree 0 [] parents [] []) (rows-of [] [] [] heads [] []) p r
+waiting parents heads p r = waits (tree-with 0 [] parents [] []) (rows-of [] [] [] heads [] []) p r
 
 abbrev pub ready : List ℕ → List ℕ → List ℕ → ℕ → ℕ → ℕ → Bool
-ready parents starts heads p v r = eligible (tree 0 [] parents [] []) (rows-of starts [] [] heads [] []) p v r
+ready parents starts heads p v r = eligible (tree-with 0 [] parents [] []) (rows-of starts [] [] heads [] []) p v r
 
 abbrev pub raised-of : ℕ → List ℕ → List ℕ → List ℕ → List ℕ → ℕ → ℕ
-raised-of rows parents starts virtuals heads p = raised (tree rows [] parents [] []) (rows-of starts [] virtuals heads [] []) p
+raised-of rows parents starts virtuals heads p = raised (tree-with rows [] parents [] []) (rows-of starts [] virtuals heads [] []) p
 
 abbrev pub next-start-of : List ℕ → List ℕ → List ℕ → Why → ℕ → ℕ
-next-start-of parents finishes virtuals why r = next-start (tree 0 [] parents [] []) why r (rows-of [] finishes virtuals [] [] [])
+next-start-of parents finishes virtuals why r = next-start (tree-with 0 [] parents [] []) why r (rows-of [] finishes virtuals [] [] [])

@@ -7,10 +7,11 @@ ghost use mathlib.Core.Path.{_≡_};
 ghost use mathlib.Core.List.{List};
 ghost use Prim.Native.Nat.{ℕ, _+_, _<_, _≤_, _^_, max};
 ghost use lib.ListN.{getD, set};
-ghost use Rattle.rules.specs.Limits.{most-rows, most-bytes};
+ghost use Rattle.input.specs.Limits.{most-rows, most-bytes};
 ghost use Rattle.rules.specs.Steps as steps;
-ghost use Rattle.choosing.specs.Arrays.{tree, rows-of, Inside, headed, waiting, ready, raised-of, next-start-of};
-ghost use Rattle.choosing.specs.Sizes.{Room, most-charge, most-choice};
+ghost use Rattle.input.specs.Lent.{tree-with};
+ghost use Rattle.choosing.specs.Arrays.{rows-of, Inside, headed, waiting, ready, raised-of, next-start-of};
+ghost use Rattle.choosing.specs.Sizes.{Leeway, most-charge, most-choice};
 use rules::Why;
 
 // Ticks of virtual time to a byte.
@@ -165,8 +166,8 @@ fn next_start(
 // Row r has this head, of this length and class.
 pub fn set_head(
     heads: &mut [u32; 256],
-    lengths: &mut [u32; 256],
-    classes: &mut [u32; 256],
+    head_lengths: &mut [u32; 256],
+    head_classes: &mut [u32; 256],
     r: usize,
     packet: u32,
     length: u32,
@@ -174,12 +175,12 @@ pub fn set_head(
 )
     requires { ⌜ r < most-rows ⌝ }
     ensures { λ _. ⌜ now (heads .exit) ≡ set (now (heads .entry)) r packet ⌝ }
-    ensures { λ _. ⌜ now (lengths .exit) ≡ set (now (lengths .entry)) r length ⌝ }
-    ensures { λ _. ⌜ now (classes .exit) ≡ set (now (classes .entry)) r class ⌝ }
+    ensures { λ _. ⌜ now («head_lengths» .exit) ≡ set (now («head_lengths» .entry)) r length ⌝ }
+    ensures { λ _. ⌜ now («head_classes» .exit) ≡ set (now («head_classes» .entry)) r class ⌝ }
 {
     heads[r] = packet;
-    lengths[r] = length;
-    classes[r] = class;
+    head_lengths[r] = length;
+    head_classes[r] = class;
 }
 
 // Row r, which is not the root, gets a head and is charged for it.
@@ -190,8 +191,8 @@ pub fn new_head(
     finishes: &mut [u64; 256],
     virtuals: &[u64; 256],
     heads: &mut [u32; 256],
-    lengths: &mut [u32; 256],
-    classes: &mut [u32; 256],
+    head_lengths: &mut [u32; 256],
+    head_classes: &mut [u32; 256],
     why: Why,
     r: usize,
     packet: u32,
@@ -201,18 +202,18 @@ pub fn new_head(
     requires { ⌜ r < most-rows ⌝ }
     requires { ⌜ Inside (now parents) ⌝ }
     requires { ⌜ length ≤ most-bytes ⌝ }
-    requires { ⌜ Room most-charge (rows-of (now starts) (now finishes) (now virtuals) (now heads) (now lengths) (now classes)) ⌝ }
+    requires { ⌜ Leeway most-charge (rows-of (now starts) (now finishes) (now virtuals) (now heads) (now «head_lengths») (now «head_classes»)) ⌝ }
     ensures { λ _. ⌜ ((rows : ℕ) (ids depths : List ℕ)
         → rows-of (now (starts .exit)) (now (finishes .exit)) (now (virtuals .exit))
-        (now (heads .exit)) (now (lengths .exit)) (now (classes .exit))
-        ≡ steps.new-head (tree rows ids (now (parents .entry)) depths (now (shares .entry))) why r packet length class
+        (now (heads .exit)) (now («head_lengths» .exit)) (now («head_classes» .exit))
+        ≡ steps.new-head (tree-with rows ids (now (parents .entry)) depths (now (shares .entry))) why r packet length class
         (rows-of (now (starts .entry)) (now (finishes .entry)) (now (virtuals .entry))
-        (now (heads .entry)) (now (lengths .entry)) (now (classes .entry)))) ⌝ }
+        (now (heads .entry)) (now («head_lengths» .entry)) (now («head_classes» .entry)))) ⌝ }
 {
     let s = next_start(parents, finishes, virtuals, why, r);
     starts[r] = s;
     finishes[r] = s + shares::charge(length, shares[r]);
-    set_head(heads, lengths, classes, r, packet, length, class);
+    set_head(heads, head_lengths, head_classes, r, packet, length, class);
 }
 
 // Row p, whose virtual time is raised to v, takes its child k: k's head is p's too, and p's virtual time passes over it.
@@ -223,8 +224,8 @@ fn takes(
     finishes: &mut [u64; 256],
     virtuals: &mut [u64; 256],
     heads: &mut [u32; 256],
-    lengths: &mut [u32; 256],
-    classes: &mut [u32; 256],
+    head_lengths: &mut [u32; 256],
+    head_classes: &mut [u32; 256],
     why: Why,
     p: usize,
     k: usize,
@@ -234,21 +235,21 @@ fn takes(
     requires { ⌜ k < most-rows ⌝ }
     requires { ⌜ v + most-choice < 2 ^ 64 ⌝ }
     requires { ⌜ Inside (now parents) ⌝ }
-    requires { ⌜ Room most-choice (rows-of (now starts) (now finishes) (now virtuals) (now heads) (now lengths) (now classes)) ⌝ }
+    requires { ⌜ Leeway most-choice (rows-of (now starts) (now finishes) (now virtuals) (now heads) (now «head_lengths») (now «head_classes»)) ⌝ }
     ensures { λ _. ⌜ ((rows : ℕ) (ids depths : List ℕ)
         → v ≡ raised-of rows (now (parents .entry)) (now (starts .entry)) (now (virtuals .entry)) (now (heads .entry)) p
         → rows-of (now (starts .exit)) (now (finishes .exit)) (now (virtuals .exit))
-        (now (heads .exit)) (now (lengths .exit)) (now (classes .exit))
-        ≡ steps.takes (tree rows ids (now (parents .entry)) depths (now (shares .entry))) why p k
+        (now (heads .exit)) (now («head_lengths» .exit)) (now («head_classes» .exit))
+        ≡ steps.takes (tree-with rows ids (now (parents .entry)) depths (now (shares .entry))) why p k
         (rows-of (now (starts .entry)) (now (finishes .entry)) (now (virtuals .entry))
-        (now (heads .entry)) (now (lengths .entry)) (now (classes .entry)))) ⌝ }
+        (now (heads .entry)) (now («head_lengths» .entry)) (now («head_classes» .entry)))) ⌝ }
 {
     let packet = heads[k];
-    let length = lengths[k];
-    let class = classes[k];
+    let length = head_lengths[k];
+    let class = head_classes[k];
     virtuals[p] = v + TICKS * (length as u64);
     if p == 0 {
-        set_head(heads, lengths, classes, p, packet, length, class);
+        set_head(heads, head_lengths, head_classes, p, packet, length, class);
     } else {
         new_head(
             parents,
@@ -257,8 +258,8 @@ fn takes(
             finishes,
             virtuals,
             heads,
-            lengths,
-            classes,
+            head_lengths,
+            head_classes,
             why,
             p,
             packet,
@@ -277,26 +278,26 @@ pub fn chooses(
     finishes: &mut [u64; 256],
     virtuals: &mut [u64; 256],
     heads: &mut [u32; 256],
-    lengths: &mut [u32; 256],
-    classes: &mut [u32; 256],
+    head_lengths: &mut [u32; 256],
+    head_classes: &mut [u32; 256],
     why: Why,
     p: u32,
 )
     requires { ⌜ rows ≤ most-rows ⌝ }
     requires { ⌜ p < most-rows ⌝ }
     requires { ⌜ Inside (now parents) ⌝ }
-    requires { ⌜ Room most-choice (rows-of (now starts) (now finishes) (now virtuals) (now heads) (now lengths) (now classes)) ⌝ }
+    requires { ⌜ Leeway most-choice (rows-of (now starts) (now finishes) (now virtuals) (now heads) (now «head_lengths») (now «head_classes»)) ⌝ }
     ensures { λ _. ⌜ ((ids depths : List ℕ)
         → rows-of (now (starts .exit)) (now (finishes .exit)) (now (virtuals .exit))
-        (now (heads .exit)) (now (lengths .exit)) (now (classes .exit))
-        ≡ steps.chooses (tree rows ids (now (parents .entry)) depths (now (shares .entry))) why p
+        (now (heads .exit)) (now («head_lengths» .exit)) (now («head_classes» .exit))
+        ≡ steps.chooses (tree-with rows ids (now (parents .entry)) depths (now (shares .entry))) why p
         (rows-of (now (starts .entry)) (now (finishes .entry)) (now (virtuals .entry))
-        (now (heads .entry)) (now (lengths .entry)) (now (classes .entry)))) ⌝ }
+        (now (heads .entry)) (now («head_lengths» .entry)) (now («head_classes» .entry)))) ⌝ }
 {
     let v = raised(rows, parents, starts, virtuals, heads, p);
     let k = least_finish(rows, parents, starts, finishes, heads, p, v);
     if k == 0 {
-        set_head(heads, lengths, classes, p as usize, 0, 0, 0);
+        set_head(heads, head_lengths, head_classes, p as usize, 0, 0, 0);
     } else {
         takes(
             parents,
@@ -305,8 +306,8 @@ pub fn chooses(
             finishes,
             virtuals,
             heads,
-            lengths,
-            classes,
+            head_lengths,
+            head_classes,
             why,
             p as usize,
             k,

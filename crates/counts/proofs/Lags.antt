@@ -7,8 +7,8 @@ use mathlib.Core.List.{List}
 use borrow.Author.Tests.{ne-eqb}
 use lib.ListN.{getD}
 use lib.IntN.{pos, _-ℤ_}
-use Rattle.rules.specs.Limits.{whole}
-use Rattle.rules.specs.Classes.{Tree}
+use Rattle.input.specs.Limits.{whole}
+use Rattle.input.specs.Classes.{Tree}
 use Rattle.rules.specs.Box.{Box}
 use Rattle.rules.specs.Outcome.{lag}
 use Rattle.counts.specs.Given.{Counts, Shares}

@@ -6,7 +6,7 @@ use mathlib.Core.Path.{_≡_, refl, ap, _∙_}
 use mathlib.Core.List.{List, [], _∷_}
 use native.Mathlib.Omega.{arith}
 use lib.ListN.{getD, set}
-use Rattle.rules.specs.Classes.{Tree}
+use Rattle.input.specs.Classes.{Tree}
 use Rattle.rules.specs.Steps.{on-path, along}
 use Rattle.counts.specs.Given.{Paths, paths, changed}
 

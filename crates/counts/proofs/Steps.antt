@@ -3,7 +3,7 @@
 use Prim.Native.Nat.{ℕ, suc, pred, _+_}
 use mathlib.Core.Path.{_≡_, sym, _∙_}
 use mathlib.Core.List.{List}
-use Rattle.rules.specs.Classes.{Tree}
+use Rattle.input.specs.Classes.{Tree}
 use Rattle.rules.specs.Box.{Box, head-class, head-length}
 use Rattle.rules.specs.Steps.{along, arrival, departure}
 use Rattle.counts.specs.Given.{Paths, Counts, own, above, begun, paths}

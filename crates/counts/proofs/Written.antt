@@ -7,7 +7,7 @@ use mathlib.Core.List.{List, [], _∷_, _++_}
 use native.Mathlib.Omega.{arith}
 use lib.ListN.{length, drop, take, replicate, length-append, length-drop}
 use lib.Seq.{sets, sets-eq, take-append-seam, drop-append-add, drop-drop}
-use Rattle.rules.specs.Classes.{Tree, sends}
+use Rattle.input.specs.Classes.{Tree, sends}
 use Rattle.rules.specs.Box.{Box}
 use Rattle.rules.specs.Outcome.{row-report, over}
 use Rattle.counts.specs.Given.{Shown, row-words}

@@ -6,8 +6,9 @@ use mathlib.Core.Path.{_≡_}
 use mathlib.Core.List.{List, [], _∷_}
 use lib.Dec.{eqb}
 use lib.ListN.{getD, set}
-use Rattle.rules.specs.Limits.{most-rows}
-use Rattle.rules.specs.Classes.{Tree, sends}
+use Rattle.input.specs.Limits.{most-rows}
+use Rattle.input.specs.Classes.{Tree, sends}
+use Rattle.input.specs.Lent.{tree-with}
 use Rattle.rules.specs.Box.{Box}
 
 -- the entry of each row that there can be is at most m
@@ -69,7 +70,7 @@ changed f r xs = set xs r (f r (getD xs r 0))
 
 -- a tree with these paths and nothing else
 abbrev pub paths : List ℕ → List ℕ → Tree
-paths parents depths = record { rows = 0; identifiers = []; parents = parents; depths = depths; shares = [] }
+paths parents depths = tree-with 0 [] parents depths []
 
 -- the report's words for row r, whose virtual time is hidden or not, from the lists that hold them
 abbrev pub row-words : Bool → List ℕ → List ℕ → List ℕ → List ℕ → List ℕ → ℕ → List ℕ

@@ -11,22 +11,24 @@ use lib.Dec.{eqb, ltb}
 use lib.ListN.{length, getD, set, take, length-take}
 use lib.Seq.{getD-set-other}
 use borrow.Author.Tests.{eqb-true, ltb-false, not-false}
-use Rattle.rules.specs.Limits.{most-rows, most-depth, whole, report-words}
-use Rattle.rules.specs.Classes.{Table, Tree, zeros, with-row, read, tree-of, earlier, parent-of, share}
-use Rattle.rules.specs.Events.{Events, count}
-use Rattle.rules.specs.Refusals.{Room, nothing, first, first-below, rows-refused, events-refused, room-refused, root-refused, row-refused, shares-refused, table-refused, refused}
+use Rattle.input.specs.Limits.{most-rows, most-depth, whole, report-words}
+use Rattle.input.specs.Classes.{Table, Tree, zeros, with-row, read, tree-of, earlier, parent-of, share}
+use Rattle.input.specs.Events.{Events, count}
+use Rattle.input.specs.Refusals.{Room, nothing, first, first-below, rows-refused, events-refused, room-refused, root-refused, row-refused, shares-refused, table-refused}
+use Rattle.rules.specs.Refused.{refused}
 use Rattle.laws.specs.Sound.{Sound}
-use Rattle.laws.proofs.Trees.{share-whole, or-none, first-none, below-none, given-none, place-most, read-rows, read-identifiers, parent-at, share-at, accepted}
-use Rattle.laws.proofs.Outset.{zeros-at}
+use Rattle.laws.proofs.tree.Trees.{share-whole, or-none, first-none, below-none, given-none, place-most, read-rows, read-identifiers, parent-at, share-at, accepted}
+use Rattle.laws.proofs.event.Outset.{zeros-at}
 use Rattle.counts.specs.Given.{Sending}
-use Rattle.tables.specs.Lent.{Sized}
+use Rattle.tables.specs.Sized.{Sized}
 use Rattle.tables.specs.Answers.{senders-below}
 use Rattle.checks.specs.Counted.{lengths-refused}
 use Rattle.tables.proofs.Firsts.{or-else-second}
 use Rattle.tables.proofs.Answering.{sized}
 use Rattle.checks.proofs.Rooted.{known}
 use Rattle.checks.proofs.Whole.{whole-listed}
-use Rattle.events.specs.State.{tree-at, Fit}
+use Rattle.input.specs.Lent.{tree-at}
+use Rattle.events.specs.State.{Fit}
 
 tree-parts : (t : Tree) (n : ℕ) (identifiers parents depths shares : List ℕ) → n ≡ t .rows → identifiers ≡ t .identifiers → parents ≡ t .parents
     → depths ≡ t .depths → shares ≡ t .shares
@@ -77,7 +79,7 @@ module _ (table : Table) where
     unfolding tree-of parent-of earlier
     parent-low r inside =
         let before = take r (table .identifiers) in
-        rw (parent-at table rows few r inside) (omega (arith, place-most (getD (table .parents) r 0) before, length-take r (table .identifiers)))
+        rw (parent-at table rows few r inside) (omega (arith, place-most (getD (table .parent-identifiers) r 0) before, length-take r (table .identifiers)))
 
     parents-inside : (r : ℕ) → getD (tree-of table .parents) r 0 < most-rows
     unfolding tree-of
@@ -149,7 +151,7 @@ module _ (table : Table) (events : Events) (room : Room) (ok : refused table eve
       let n = length (table .identifiers) in
       let rows-none = or-none (first-below (row-refused table) n) (first-below (shares-refused table) n) table-ok .0 in
       let root = first-none _ (below-none (row-refused table) n rows-none 0 (whole-table .some)) in
-      let a = eqb (getD (table .parents) 0 0) 0 in
+      let a = eqb (getD (table .parent-identifiers) 0 0) 0 in
       let b = eqb (getD (table .shares) 0 0) 0 in
       eqb-true (getD (table .shares) 0 0) 0 (not-false b (or-is-false (not a) (not b) .0 (given-none _ _ _ (root .1 .0)) .1))
 

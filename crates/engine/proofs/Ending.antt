@@ -7,10 +7,11 @@ use mathlib.Core.List.{List}
 use lib.ListN.{length, replicate}
 use lib.IntN.{ℤ}
 use borrow.Author.Tests.{eq-eqb, ne-eqb}
-use Rattle.rules.specs.declared.Refusal.{Refusal}
-use Rattle.rules.specs.Classes.{Table, Tree, tree-of}
-use Rattle.rules.specs.Events.{Events, count}
-use Rattle.rules.specs.Refusals.{Room, refused}
+use Rattle.input.specs.declared.Refusal.{Refusal}
+use Rattle.input.specs.Classes.{Table, Tree, tree-of}
+use Rattle.input.specs.Events.{Events, count}
+use Rattle.input.specs.Refusals.{Room}
+use Rattle.rules.specs.Refused.{refused}
 use Rattle.rules.specs.Outcome.{Lent, over, room-of, refusing, doing, outcome}
 use Rattle.counts.specs.Given.{Sending}
 use Rattle.tables.specs.declared.Reading.{Reading}
@@ -18,7 +19,8 @@ use Rattle.tables.specs.Answers.{accepting}
 use Rattle.checks.specs.Counted.{checked}
 use Rattle.tables.proofs.Answering.{answer-accepts}
 use Rattle.checks.proofs.Whole.{answer-refusal}
-use Rattle.events.specs.State.{tree-at, Fit}
+use Rattle.input.specs.Lent.{tree-at}
+use Rattle.events.specs.State.{Fit}
 use Rattle.engine.specs.Served.{Served}
 use Rattle.engine.specs.Run.{left-of}
 use Rattle.engine.proofs.Opening.{cleared-again}

@@ -6,14 +6,14 @@ use mathlib.Core.List.{List, _++_}
 use native.Mathlib.Omega.{arith}
 use lib.ListN.{length, getD, drop, replicate, length-replicate, List·getD-append}
 use lib.Seq.{drop-append-seam}
-use Rattle.rules.specs.Limits.{most-rows}
-use Rattle.rules.specs.Classes.{Tree, zeros}
-use Rattle.rules.specs.Events.{Events, count}
+use Rattle.input.specs.Limits.{most-rows}
+use Rattle.input.specs.Classes.{Tree, zeros}
+use Rattle.input.specs.Events.{Events, count}
 use Rattle.rules.specs.Box.{Rows, fresh}
 use Rattle.rules.specs.Steps.{after}
 use Rattle.rules.specs.Outcome.{over}
-use Rattle.laws.proofs.Outset.{replicate-at, zeros-at, empty-queue}
-use Rattle.laws.proofs.Trees.{zeros-full}
+use Rattle.laws.proofs.event.Outset.{replicate-at, zeros-at, empty-queue}
+use Rattle.laws.proofs.tree.Trees.{zeros-full}
 use Rattle.choosing.specs.Arrays.{rows-of}
 use Rattle.counts.specs.Given.{Shown}
 use Rattle.events.specs.Links.{last-word, Chain}

@@ -5,12 +5,12 @@ use mathlib.Core.Path.{_≡_, sym, ap, _∙_}
 use mathlib.Core.Bool.{Bool}
 use mathlib.Core.List.{List}
 use lib.IntN.{ℤ}
-use Rattle.rules.specs.declared.Event.{Event}
-use Rattle.rules.specs.declared.Refusal.{Refusal}
-use Rattle.rules.specs.Shares.{allowed, cost, charge}
-use Rattle.rules.specs.Classes.{Table, place-of}
-use Rattle.rules.specs.Events.{Events, decode}
-use Rattle.rules.specs.Refusals.{Room}
+use Rattle.input.specs.declared.Event.{Event}
+use Rattle.input.specs.declared.Refusal.{Refusal}
+use Rattle.input.specs.Shares.{allowed, cost, charge}
+use Rattle.input.specs.Classes.{Table, place-of}
+use Rattle.input.specs.Events.{Events, decode}
+use Rattle.input.specs.Refusals.{Room}
 use Rattle.rules.specs.Outcome.{Outcome, outcome}
 use Rattle.tables.specs.declared.Reading.{Reading}
 use Rattle.tables.specs.Answers.{reading}

@@ -2,10 +2,9 @@
 use Prim.Native.Nat.{ℕ}
 use mathlib.Core.List.{List}
 use lib.IntN.{ℤ}
-use Rattle.rules.specs.declared.Answer.{Answer}
+use Rattle.input.specs.declared.Answer.{Answer}
 use Rattle.rules.specs.Outcome.{Lent, Outcome}
-use Rattle.tables.specs.Lent.{table-of}
-use Rattle.checks.specs.Lent.{events-of}
+use Rattle.input.specs.Lent.{table-of, events-of}
 
 abbrev pub lent-of : List ℕ → List ℕ → List ℕ → List ℕ → List ℕ → List ℕ → List ℕ → List ℤ → List ℕ → Lent
 lent-of identifiers parents shares classes lengths order report lags working =

@@ -4,8 +4,8 @@ use mathlib.Core.Path.{_≡_}
 use mathlib.Core.List.{List}
 use lib.ListN.{length, drop}
 use lib.IntN.{ℤ}
-use Rattle.rules.specs.Classes.{Tree}
-use Rattle.rules.specs.Events.{Events, count}
+use Rattle.input.specs.Classes.{Tree}
+use Rattle.input.specs.Events.{Events, count}
 use Rattle.rules.specs.Steps.{after}
 use Rattle.rules.specs.Outcome.{report-of, lags-of, over}
 

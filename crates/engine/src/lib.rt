@@ -2,14 +2,14 @@
 ghost use mathlib.Core.Path.{_≡_};
 ghost use Prim.Native.Nat.{_*_, _≤_};
 ghost use lib.ListN as lists;
-ghost use Rattle.rules.specs.Limits.{report-words};
+ghost use Rattle.input.specs.Limits.{report-words};
 ghost use Rattle.rules.specs.Outcome.{outcome};
 ghost use Rattle.counts.specs.Given.{Sending};
-ghost use Rattle.checks.specs.Lent.{events-of};
-ghost use Rattle.events.specs.State.{tree-at, Fit};
+ghost use Rattle.input.specs.Lent.{events-of, tree-at};
+ghost use Rattle.events.specs.State.{Fit};
 ghost use Rattle.engine.specs.Served.{Served};
 ghost use Rattle.engine.specs.Run.{lent-of, left-of};
-use rules::Answer;
+use input::Answer;
 
 // An input that is not refused: its events in turn, and then the results. So many packets have gone on the line.
 fn serve(
@@ -101,7 +101,7 @@ fn serve(
 // went on the line.
 pub fn run(
     identifiers: &[u32],
-    parents: &[u32],
+    parent_identifiers: &[u32],
     shares: &[u32],
     classes: &[u32],
     lengths: &[u32],
@@ -111,12 +111,12 @@ pub fn run(
     working: &mut [u32],
 ) -> Answer
     ensures { λ r. ⌜ left-of r (now (order .exit)) (now (report .exit)) (now (lags .exit)) (now (working .exit))
-        ≡ outcome (lent-of (now (identifiers .entry)) (now (parents .entry)) (now (shares .entry)) (now (classes .entry)) (now (lengths .entry))
+        ≡ outcome (lent-of (now (identifiers .entry)) (now («parent_identifiers» .entry)) (now (shares .entry)) (now (classes .entry)) (now (lengths .entry))
         (now (order .entry)) (now (report .entry)) (now (lags .entry)) (now (working .entry))) ⌝ }
 {
     let reading = checks::check(
         identifiers,
-        parents,
+        parent_identifiers,
         shares,
         classes,
         lengths,
@@ -134,7 +134,7 @@ pub fn run(
             count: 0,
         };
     }
-    let rows_above = reading.parents;
+    let parents = reading.parents;
     let depths = reading.depths;
     let parts = reading.shares;
     let senders = reading.senders;
@@ -142,7 +142,7 @@ pub fn run(
         identifiers,
         classes,
         lengths,
-        &rows_above,
+        &parents,
         &depths,
         &parts,
         &senders,

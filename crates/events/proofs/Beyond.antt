@@ -11,23 +11,23 @@ use lib.ListN.{getD, set}
 use lib.Seq.{getD-set-other}
 use Rattle.rules.specs.declared.Why.{Why}
 use Rattle.rules.specs.declared.Why.the-variants.{Finished, Arrived}
-use Rattle.rules.specs.Classes.{Tree, parent, depth}
-use Rattle.rules.specs.Events.{Events}
+use Rattle.input.specs.Classes.{Tree, parent, depth}
+use Rattle.input.specs.Events.{Events}
 use Rattle.rules.specs.Box.{Packet, Rows, Box, fresh, start, finish, virtual, head-length, has-head, bytes-of, held-by}
 use Rattle.rules.specs.Steps.{on-path, along, new-head, up, arrives, leaves, renews, goes-on, arrival, departure, after}
 use Rattle.rules.specs.Promise.{within}
 use Rattle.laws.specs.Sound.{Sound}
 use Rattle.laws.specs.Moves.{Full, SameRow}
 use Rattle.laws.specs.History.{Accepted}
-use Rattle.laws.proofs.Heads.{same-row, then-same}
-use Rattle.laws.proofs.Paths.{climb, nearer, only-root, below-root, along-length}
-use Rattle.laws.proofs.Choosing.{new-head-full, new-head-elsewhere}
-use Rattle.laws.proofs.Rising.{rises}
-use Rattle.laws.proofs.Turns.{fewer, turn}
-use Rattle.laws.proofs.Outset.{zeros-at}
+use Rattle.laws.proofs.path.Heads.{same-row, then-same}
+use Rattle.laws.proofs.tree.Paths.{climb, nearer, only-root, below-root, along-length}
+use Rattle.laws.proofs.path.Choosing.{new-head-full, new-head-elsewhere}
+use Rattle.laws.proofs.path.Rising.{rises}
+use Rattle.laws.proofs.event.Turns.{fewer, turn}
+use Rattle.laws.proofs.event.Outset.{zeros-at}
 use Rattle.laws.specs.Line.{line-class, left}
-use Rattle.laws.proofs.OneEvent.{line-sender}
-use Rattle.laws.proofs.Sizes.{few, small-kept}
+use Rattle.laws.proofs.event.OneEvent.{line-sender}
+use Rattle.laws.proofs.run.Sizes.{few, small-kept}
 
 -- the box has nothing in row j
 pub record Nothing (box : Box) (j : ℕ) : Type 0 where
@@ -93,8 +93,8 @@ module _ (tree : Tree) (sound : Sound tree) (j : ℕ) (beyond : tree .rows ≤ j
               head-same =
                   record {
                     packet-same = along-beyond (λ r n. 0) k (a .heads) inside;
-                    length-same = along-beyond (λ r n. 0) k (a .lengths) inside;
-                    class-same = along-beyond (λ r n. 0) k (a .classes) inside;
+                    length-same = along-beyond (λ r n. 0) k (a .head-lengths) inside;
+                    class-same = along-beyond (λ r n. 0) k (a .head-classes) inside;
                   };
             };
         virtual-same = refl;
@@ -108,8 +108,8 @@ module _ (tree : Tree) (sound : Sound tree) (j : ℕ) (beyond : tree .rows ≤ j
         finishes-full = full .finishes-full;
         virtuals-full = full .virtuals-full;
         heads-full = along-length tree sound (λ r n. 0) k (a .heads) ∙ full .heads-full;
-        lengths-full = along-length tree sound (λ r n. 0) k (a .lengths) ∙ full .lengths-full;
-        classes-full = along-length tree sound (λ r n. 0) k (a .classes) ∙ full .classes-full;
+        head-lengths-full = along-length tree sound (λ r n. 0) k (a .head-lengths) ∙ full .head-lengths-full;
+        head-classes-full = along-length tree sound (λ r n. 0) k (a .head-classes) ∙ full .head-classes-full;
       }
 
   goes-on-beyond : (k : ℕ) (later : List Packet) → k < tree .rows → (a : Rows) → Full a → SameRow a (goes-on tree k later a) j

@@ -6,19 +6,19 @@ use mathlib.Core.List.{List}
 use native.Mathlib.Decide.{decLt}
 use native.Mathlib.Omega.{arith}
 use lib.ListN.{getD}
-use Rattle.rules.specs.Limits.{most-bytes, scale}
-use Rattle.rules.specs.Classes.{Tree, parent}
-use Rattle.rules.specs.Events.{Events, count, length-word}
+use Rattle.input.specs.Limits.{most-bytes, scale}
+use Rattle.input.specs.Classes.{Tree, parent}
+use Rattle.input.specs.Events.{Events, count, length-word}
 use Rattle.rules.specs.Box.{Box, Rows, fresh, start, finish, virtual, head-length, bytes-of, held-by}
 use Rattle.rules.specs.Steps.{arrival, departure, after}
 use Rattle.rules.specs.Promise.{within}
 use Rattle.laws.specs.History.{Accepted}
-use Rattle.laws.proofs.Tests.{cond-least}
-use Rattle.laws.proofs.Turns.{class-at, fewer, turn}
-use Rattle.laws.proofs.Outset.{zeros-at}
+use Rattle.laws.proofs.path.Tests.{cond-least}
+use Rattle.laws.proofs.event.Turns.{class-at, fewer, turn}
+use Rattle.laws.proofs.event.Outset.{zeros-at}
 use Rattle.laws.specs.Line.{line-class}
-use Rattle.laws.proofs.OneEvent.{mark-most, arrival-parent-since, departure-bytes}
-use Rattle.laws.proofs.Sizes.{few, small-kept, tags-below, heads-below, bytes-below, held-below, since-below, parent-since-below}
+use Rattle.laws.proofs.event.OneEvent.{mark-most, arrival-parent-since, departure-bytes}
+use Rattle.laws.proofs.run.Sizes.{few, small-kept, tags-below, heads-below, bytes-below, held-below, since-below, parent-since-below}
 use Rattle.hierarchy.specs.Sizes.{Small}
 use Rattle.counts.specs.Given.{At-most, Past}
 use Rattle.events.specs.State.{Fit, Ready, Now}
@@ -49,7 +49,7 @@ module _ (tree : Tree) (events : Events) (fit : Fit tree events) (i : ℕ) (befo
         starts = all-rows (start (box .rows)) (2 ^ 62) (λ r inside. omega (arith, below .starts-below r inside, tags)) (λ r high. nothing-beyond tree events i ok r high .start-none);
         finishes = all-rows (finish (box .rows)) (2 ^ 62) (λ r inside. omega (arith, below .finishes-below r inside, tags)) (λ r high. nothing-beyond tree events i ok r high .finish-none);
         virtuals = all-rows (virtual (box .rows)) (2 ^ 62) (λ r inside. omega (arith, below .virtuals-below r inside, tags)) (λ r high. nothing-beyond tree events i ok r high .virtual-none);
-        lengths = all-rows (head-length (box .rows)) most-bytes (λ r inside. heads-below tree events i r ok inside) (λ r high. nothing-beyond tree events i ok r high .length-none);
+        head-lengths = all-rows (head-length (box .rows)) most-bytes (λ r inside. heads-below tree events i r ok inside) (λ r high. nothing-beyond tree events i ok r high .length-none);
       }
 
   bytes-small : (r : ℕ) → bytes-of box r ≤ 2 ^ 40

@@ -5,8 +5,8 @@ use mathlib.Core.Path.{_≡_, sym, subst}
 use mathlib.Core.List.{List}
 use native.Mathlib.Omega.{arith}
 use lib.ListN.{getD, set}
-use Rattle.rules.specs.Limits.{most-bytes}
-use Rattle.rules.specs.Classes.{Tree, parent, depth}
+use Rattle.input.specs.Limits.{most-bytes}
+use Rattle.input.specs.Classes.{Tree, parent, depth}
 use Rattle.rules.specs.Box.{Rows, Box, head-class}
 use Rattle.rules.specs.Steps.{on-path, along, leaves, goes-on, departure}
 use Rattle.laws.specs.Line.{left}
@@ -26,7 +26,7 @@ leaves-small tree k a small =
       starts = small .starts;
       finishes = small .finishes;
       virtuals = small .virtuals;
-      lengths = path-most (depth tree k) most-bytes tree k (a .lengths) (small .lengths);
+      head-lengths = path-most (depth tree k) most-bytes tree k (a .head-lengths) (small .head-lengths);
     }
 
 pub left-small : (tree : Tree) (k : ℕ) (a idle : Rows) → Small a → idle ≡ leaves tree k a → Small idle

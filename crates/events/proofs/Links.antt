@@ -8,14 +8,14 @@ use native.Mathlib.Decide.{ℕ-discrete}
 use native.Mathlib.Omega.{arith}
 use lib.ListN.{length, getD, set, take, drop, length-set}
 use lib.Seq.{getD-set-same, getD-set-other, drop-set-lt}
-use Rattle.rules.specs.Classes.{Tree, row-of}
-use Rattle.rules.specs.Events.{Events, count, class-word, length-word}
+use Rattle.input.specs.Classes.{Tree, row-of}
+use Rattle.input.specs.Events.{Events, count, class-word, length-word}
 use Rattle.rules.specs.Box.{Packet, Box, queue-of}
 use Rattle.rules.specs.Steps.{arrival, departure}
 use Rattle.laws.specs.Sound.{Sound, Sender}
 use Rattle.laws.specs.Kept.{InLine, Kept}
 use Rattle.laws.specs.Line.{line-class}
-use Rattle.laws.proofs.Queues.{each-queue}
+use Rattle.laws.proofs.event.Queues.{each-queue}
 use Rattle.hierarchy.specs.Next.{next-of}
 use Rattle.queues.specs.Words.{followed, shortened, length-of}
 use Rattle.events.specs.Links.{first-word, last-word, Chain, Linked}

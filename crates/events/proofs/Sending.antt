@@ -8,10 +8,10 @@ use native.Mathlib.Omega.{arith}
 use lib.Dec.{eqb}
 use lib.ListN.{length, length-append}
 use lib.Seq.{sets}
-use Rattle.rules.specs.declared.Event.{Event}
-use Rattle.rules.specs.declared.Event.the-variants.{Arrival, Finish}
-use Rattle.rules.specs.Classes.{Tree}
-use Rattle.rules.specs.Events.{Events, event}
+use Rattle.input.specs.declared.Event.{Event}
+use Rattle.input.specs.declared.Event.the-variants.{Arrival, Finish}
+use Rattle.input.specs.Classes.{Tree}
+use Rattle.input.specs.Events.{Events, event}
 use Rattle.rules.specs.Box.{Rows, Box, fresh, head, has-head}
 use Rattle.rules.specs.Steps.{sent, arrival, departure, step, after}
 use Rattle.rules.specs.Outcome.{over}

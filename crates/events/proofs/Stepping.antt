@@ -10,25 +10,26 @@ use lib.Dec.{eqb}
 use native.Mathlib.Numerals.{add-one}
 use lib.ListN.{length, getD, set, take, drop, length-append}
 use lib.Seq.{sets}
-use Rattle.rules.specs.declared.Event.the-variants.{Arrival, Finish}
-use Rattle.rules.specs.Limits.{most-rows, most-bytes, most-events}
-use Rattle.rules.specs.Classes.{Tree, row-of}
-use Rattle.rules.specs.Events.{Events, count, class-word, length-word, decode, event}
+use Rattle.input.specs.declared.Event.the-variants.{Arrival, Finish}
+use Rattle.input.specs.Limits.{most-rows, most-bytes, most-events}
+use Rattle.input.specs.Classes.{Tree, row-of}
+use Rattle.input.specs.Events.{Events, count, class-word, length-word, decode, event}
 use Rattle.rules.specs.Box.{Packet, Rows, Box, head, head-class, queue-of}
 use Rattle.rules.specs.Steps.{leaves, sent, arrival, departure, step, after}
-use Rattle.rules.specs.Refusals.{idle, meeting-refused, event-refused}
+use Rattle.input.specs.Refusals.{meeting-refused}
+use Rattle.rules.specs.Refused.{idle, event-refused}
 use Rattle.rules.specs.Outcome.{over}
 use Rattle.laws.specs.Sound.{Sound, Sender, ArrivalFits}
 use Rattle.laws.specs.Moves.{SameHead}
 use Rattle.laws.specs.Kept.{Kept, HeadOf}
-use Rattle.laws.proofs.Heads.{has-true}
-use Rattle.laws.proofs.Trees.{arrival-fits, finish-fits}
-use Rattle.laws.proofs.Turns.{fewer}
-use Rattle.laws.proofs.DeparturePath.{leaves-idle}
+use Rattle.laws.proofs.path.Heads.{has-true}
+use Rattle.laws.proofs.tree.Trees.{arrival-fits, finish-fits}
+use Rattle.laws.proofs.event.Turns.{fewer}
+use Rattle.laws.proofs.path.DeparturePath.{leaves-idle}
 use Rattle.laws.specs.Line.{line-class, left}
-use Rattle.laws.proofs.OneEvent.{line-sender, left-line}
-use Rattle.laws.proofs.Keeping.{class-head}
-use Rattle.laws.proofs.Sizes.{few, small-kept}
+use Rattle.laws.proofs.event.OneEvent.{line-sender, left-line}
+use Rattle.laws.proofs.event.Keeping.{class-head}
+use Rattle.laws.proofs.run.Sizes.{few, small-kept}
 use Rattle.hierarchy.specs.Next.{next-of}
 use Rattle.counts.specs.Given.{Counts}
 use Rattle.queues.specs.Words.{followed, shortened, length-of, sent-word}

@@ -4,9 +4,9 @@ use Prim.Native.Nat.{ℕ, suc, _≤_, _<_}
 use mathlib.Core.Path.{_≡_}
 use mathlib.Core.List.{List, [], _∷_}
 use lib.ListN.{length, getD}
-use Rattle.rules.specs.Limits.{most-rows}
-use Rattle.rules.specs.Classes.{Tree, row-of}
-use Rattle.rules.specs.Events.{Events, count, class-word, length-word}
+use Rattle.input.specs.Limits.{most-rows}
+use Rattle.input.specs.Classes.{Tree, row-of}
+use Rattle.input.specs.Events.{Events, count, class-word, length-word}
 use Rattle.rules.specs.Box.{Packet, Box, queue-of}
 use Rattle.laws.specs.Sound.{Sender}
 

@@ -3,9 +3,9 @@ use Prim.Native.Nat.{ℕ, _≤_, _^_}
 use mathlib.Core.Path.{_≡_}
 use mathlib.Core.List.{List}
 use lib.ListN.{length, getD}
-use Rattle.rules.specs.Limits.{most-rows, most-depth, most-events, whole}
-use Rattle.rules.specs.Classes.{Tree}
-use Rattle.rules.specs.Events.{Events, count}
+use Rattle.input.specs.Limits.{most-rows, most-depth, most-events, whole}
+use Rattle.input.specs.Classes.{Tree}
+use Rattle.input.specs.Events.{Events, count}
 use Rattle.rules.specs.Box.{Rows}
 use Rattle.rules.specs.Steps.{after}
 use Rattle.laws.specs.History.{Accepted}
@@ -13,11 +13,6 @@ use Rattle.choosing.specs.Arrays.{Inside}
 use Rattle.hierarchy.specs.Sizes.{Small}
 use Rattle.counts.specs.Given.{At-most, Counts}
 use Rattle.events.specs.Links.{Linked}
-
--- the tree of a table that was read
-abbrev pub tree-at : List ℕ → List ℕ → List ℕ → List ℕ → Tree
-tree-at identifiers parents depths shares =
-    record { rows = length identifiers; identifiers = identifiers; parents = parents; depths = depths; shares = shares }
 
 -- an input that is not refused, with what its rows have that no class has: a parent, a depth and a share of 0
 pub record Fit (tree : Tree) (events : Events) : Type 0 where

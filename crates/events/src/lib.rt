@@ -4,17 +4,17 @@ ghost use mathlib.Core.List.{List};
 ghost use Prim.Native.Nat.{ℕ, suc, _≤_, _<_};
 ghost use lib.ListN.{getD, take, drop};
 ghost use lib.ListN as lists;
-ghost use Rattle.rules.specs.Limits.{most-rows, most-bytes, most-events};
+ghost use Rattle.input.specs.Limits.{most-rows, most-bytes, most-events};
 ghost use Rattle.rules.specs.Box.{Box};
 ghost use Rattle.rules.specs.Steps.{after, arrival, departure};
 ghost use Rattle.rules.specs.Outcome.{over};
-ghost use Rattle.choosing.specs.Arrays.{tree, rows-of};
+ghost use Rattle.choosing.specs.Arrays.{rows-of};
 ghost use Rattle.hierarchy.specs.Next.{next-of};
 ghost use Rattle.counts.specs.Given.{Counts};
-ghost use Rattle.checks.specs.Lent.{events-of};
+ghost use Rattle.input.specs.Lent.{events-of, tree-with, tree-at};
 ghost use Rattle.laws.specs.Line.{left};
-ghost use Rattle.events.specs.State.{tree-at, Fit, Ready, Now};
-use rules::Event;
+ghost use Rattle.events.specs.State.{Fit, Ready, Now};
+use input::Event;
 
 fn wide(x: u32) -> usize
     ensures { λ r. ⌜ r ≡ x ⌝ }
@@ -47,11 +47,11 @@ fn arrive(
         ∗ ⌜ k < most-rows ⌝ ∗ ⌜ place < most-events ⌝ ∗ ⌜ length ≤ most-bytes ⌝ }
     ensures { λ _. ⌜ ((ids : List ℕ) (box : Box)
         → box .rows ≡ rows-of (now (starts .entry)) (now (finishes .entry)) (now (virtuals .entry)) (now (heads .entry)) (now («head_lengths» .entry)) (now («head_classes» .entry))
-        → arrival (tree rows ids (now (parents .entry)) (now (depths .entry)) (now (shares .entry))) place k length box .rows
+        → arrival (tree-with rows ids (now (parents .entry)) (now (depths .entry)) (now (shares .entry))) place k length box .rows
         ≡ rows-of (now (starts .exit)) (now (finishes .exit)) (now (virtuals .exit)) (now (heads .exit)) (now («head_lengths» .exit)) (now («head_classes» .exit))) ⌝ }
     ensures { λ _. ⌜ ((ids : List ℕ) (box : Box)
         → Counts box (now (bytes .entry)) (now (held .entry)) (now (since .entry)) (now («parent_since» .entry))
-        → Counts (arrival (tree rows ids (now (parents .entry)) (now (depths .entry)) (now (shares .entry))) place k length box)
+        → Counts (arrival (tree-with rows ids (now (parents .entry)) (now (depths .entry)) (now (shares .entry))) place k length box)
         (now (bytes .entry)) (now (held .exit)) (now (since .exit)) (now («parent_since» .exit))) ⌝ }
 {
     hierarchy::arrive(
@@ -95,12 +95,12 @@ fn depart(
     ensures { λ _. ⌜ ((ids : List ℕ) (box : Box)
         → box .rows ≡ rows-of (now (starts .entry)) (now (finishes .entry)) (now (virtuals .entry)) (now (heads .entry)) (now («head_lengths» .entry)) (now («head_classes» .entry))
         → take 1 (left box) ≡ next-of next length
-        → departure (tree rows ids (now (parents .entry)) (now (depths .entry)) (now (shares .entry))) box .rows
+        → departure (tree-with rows ids (now (parents .entry)) (now (depths .entry)) (now (shares .entry))) box .rows
         ≡ rows-of (now (starts .exit)) (now (finishes .exit)) (now (virtuals .exit)) (now (heads .exit)) (now («head_lengths» .exit)) (now («head_classes» .exit))) ⌝ }
     ensures { λ _. ⌜ ((ids : List ℕ) (box : Box) (since parent-since : List ℕ)
         → box .rows ≡ rows-of (now (starts .entry)) (now (finishes .entry)) (now (virtuals .entry)) (now (heads .entry)) (now («head_lengths» .entry)) (now («head_classes» .entry))
         → Counts box (now (bytes .entry)) (now (held .entry)) since parent-since
-        → Counts (departure (tree rows ids (now (parents .entry)) (now (depths .entry)) (now (shares .entry))) box)
+        → Counts (departure (tree-with rows ids (now (parents .entry)) (now (depths .entry)) (now (shares .entry))) box)
         (now (bytes .exit)) (now (held .exit)) since parent-since) ⌝ }
 {
     let k = wide(head_classes[0]);

@@ -8,10 +8,11 @@ use native.Mathlib.Numerals.{sub-one}
 use native.Mathlib.Omega.{arith}
 use lib.ListN.{getD, set}
 use Rattle.rules.specs.declared.Why.{Why}
-use Rattle.rules.specs.Classes.{Tree, parent}
+use Rattle.input.specs.Classes.{Tree, parent}
 use Rattle.rules.specs.Box.{Rows, has-head}
 use Rattle.rules.specs.Steps.{chooses, up, on-path, along}
-use Rattle.choosing.specs.Arrays.{tree, headed}
+use Rattle.input.specs.Lent.{tree-with}
+use Rattle.choosing.specs.Arrays.{headed}
 use Rattle.choosing.proofs.Parts.{head-part}
 
 -- ── choosing ──
@@ -35,24 +36,24 @@ module _ (tree : Tree) (why : Why) (r : ℕ) (rows : Rows) where
 -- what remains to be done from row r, which is at depth d, is all that was to be done from the row at first
 pub record Rising (n : ℕ) (parents shares : List ℕ) (why : Why) (row depth : ℕ) (before : Rows) (d r : ℕ) (now : Rows) : Type 0 where
   pub same : (ids depths : List ℕ)
-      → up d (tree n ids parents depths shares) why r now ≡ up depth (tree n ids parents depths shares) why row before
+      → up d (tree-with n ids parents depths shares) why r now ≡ up depth (tree-with n ids parents depths shares) why row before
 
 module _ (n : ℕ) (parents shares : List ℕ) (why : Why) (row depth : ℕ) (before : Rows) where
   pub rising-all : Rising n parents shares why row depth before depth row before
   rising-all = record { same = λ ids depths. refl }
 
   module _ (d r : ℕ) (now : Rows) (rising : Rising n parents shares why row depth before d r now) where
-    pub rising-done : d ≡ 0 → (ids depths : List ℕ) → now ≡ up depth (tree n ids parents depths shares) why row before
-    rising-done none ids depths = sym (up-done (tree n ids parents depths shares) why r now d none) ∙ rising .same ids depths
+    pub rising-done : d ≡ 0 → (ids depths : List ℕ) → now ≡ up depth (tree-with n ids parents depths shares) why row before
+    rising-done none ids depths = sym (up-done (tree-with n ids parents depths shares) why r now d none) ∙ rising .same ids depths
 
     pub rising-stops : 0 < d → headed (now .heads) (getD parents r 0) ≡ true
-        → (ids depths : List ℕ) → now ≡ up depth (tree n ids parents depths shares) why row before
+        → (ids depths : List ℕ) → now ≡ up depth (tree-with n ids parents depths shares) why row before
     rising-stops some has ids depths =
         let whole = tree n ids parents depths shares in
         sym (up-stops whole why r now d some (head-part now (getD parents r 0) ∙ has)) ∙ rising .same ids depths
 
     pub rising-goes : (next : Rows) → 0 < d → headed (now .heads) (getD parents r 0) ≡ false
-        → ((ids depths : List ℕ) → next ≡ chooses (tree n ids parents depths shares) why (getD parents r 0) now)
+        → ((ids depths : List ℕ) → next ≡ chooses (tree-with n ids parents depths shares) why (getD parents r 0) now)
         → Rising n parents shares why row depth before (d - 1) (getD parents r 0) next
     rising-goes next some has chosen =
         record {
@@ -79,7 +80,7 @@ module _ (tree : Tree) (r : ℕ) (xs : List ℕ) where
 -- what remains to be cleared of xs from row r, which is at depth d, is all that was to be cleared from row k at first
 pub record Remains (parents depths : List ℕ) (k : ℕ) (xs₀ : List ℕ) (d r : ℕ) (xs : List ℕ) : Type 0 where
   pub same : (rows : ℕ) (ids shares : List ℕ)
-      → on-path d (tree rows ids parents depths shares) clear r xs ≡ along (tree rows ids parents depths shares) clear k xs₀
+      → on-path d (tree-with rows ids parents depths shares) clear r xs ≡ along (tree-with rows ids parents depths shares) clear k xs₀
 
 pub remains-all : (parents depths : List ℕ) (k : ℕ) (xs : List ℕ) → Remains parents depths k xs (getD depths k 0) k xs
 unfolding along
@@ -90,11 +91,11 @@ pub remains-less : {parents depths : List ℕ} {k : ℕ} {xs₀ : List ℕ} {d r
 remains-less {parents} {depths} {k} {xs₀} {d} {r} {xs} {ys} some written remains =
     record {
       same = λ rows ids shares.
-          rw (written, ← path-goes (tree rows ids parents depths shares) r xs d some) (remains .same rows ids shares);
+          rw (written, ← path-goes (tree-with rows ids parents depths shares) r xs d some) (remains .same rows ids shares);
     }
 
 pub remains-last : {parents depths : List ℕ} {k : ℕ} {xs₀ : List ℕ} {d r : ℕ} {xs ys : List ℕ} → d ≡ 0 → ys ≡ set xs r 0
     → Remains parents depths k xs₀ d r xs
-    → (rows : ℕ) (ids shares : List ℕ) → ys ≡ along (tree rows ids parents depths shares) clear k xs₀
+    → (rows : ℕ) (ids shares : List ℕ) → ys ≡ along (tree-with rows ids parents depths shares) clear k xs₀
 remains-last {parents} {depths} {k} {xs₀} {d} {r} {xs} {ys} none written remains rows ids shares =
-    rw (written, ← path-done (tree rows ids parents depths shares) r xs d none) (remains .same rows ids shares)
+    rw (written, ← path-done (tree-with rows ids parents depths shares) r xs d none) (remains .same rows ids shares)

@@ -6,31 +6,31 @@ use mathlib.Core.Bool.{Bool, true, false, cond}
 use native.Mathlib.Omega.{arith}
 use lib.Dec.{eqb}
 use Rattle.rules.specs.declared.Why.{Why}
-use Rattle.rules.specs.Limits.{ticks, most-bytes}
-use Rattle.rules.specs.Shares.{charge}
-use Rattle.rules.specs.Classes.{Tree, share}
+use Rattle.input.specs.Limits.{ticks, most-bytes}
+use Rattle.input.specs.Shares.{charge}
+use Rattle.input.specs.Classes.{Tree, share}
 use Rattle.rules.specs.Box.{Rows, head, head-length, head-class}
 use Rattle.rules.specs.Steps.{with-head, with-virtual, charged, next-start, new-head, raised, pick, takes, chooses}
-use Rattle.choosing.specs.Sizes.{Room, most-charge, most-passed, most-choice}
+use Rattle.choosing.specs.Sizes.{Leeway, most-charge, most-passed, most-choice}
 use Rattle.choosing.proofs.Ticks.{charge-most, written, less-room, next-start-room, raised-room, passed-room}
 use Rattle.hierarchy.specs.Sizes.{Small}
 
-pub same-room : {n : ℕ} {rows next : Rows} → next ≡ rows → Room n rows → Room n next
+pub same-room : {n : ℕ} {rows next : Rows} → next ≡ rows → Leeway n rows → Leeway n next
 same-room same room = rw same room
 
-with-head-room : (n : ℕ) (rows : Rows) → Room n rows
-    → (r packet length class : ℕ) → length ≤ most-bytes → Room n (with-head r packet length class rows)
+with-head-room : (n : ℕ) (rows : Rows) → Leeway n rows
+    → (r packet length class : ℕ) → length ≤ most-bytes → Leeway n (with-head r packet length class rows)
 unfolding with-head
 with-head-room n rows room r packet length class short =
     record {
       starts = room .starts;
       finishes = room .finishes;
       virtuals = room .virtuals;
-      lengths = written (λ (l : ℕ). l ≤ most-bytes) (rows .lengths) r length short (room .lengths);
+      head-lengths = written (λ (l : ℕ). l ≤ most-bytes) (rows .head-lengths) r length short (room .head-lengths);
     }
 
-pub new-head-room : (n : ℕ) (tree : Tree) (rows : Rows) → Room (n + most-charge) rows
-    → (why : Why) (r packet length class : ℕ) → length ≤ most-bytes → Room n (new-head tree why r packet length class rows)
+pub new-head-room : (n : ℕ) (tree : Tree) (rows : Rows) → Leeway (n + most-charge) rows
+    → (why : Why) (r packet length class : ℕ) → length ≤ most-bytes → Leeway n (new-head tree why r packet length class rows)
 unfolding new-head charged with-head
 new-head-room n tree rows room why r packet length class short =
     let small = next-start-room (n + most-charge) tree rows room why r in
@@ -39,66 +39,66 @@ new-head-room n tree rows room why r packet length class short =
       starts = written (λ (t : ℕ). t + n < 2 ^ 64) (rows .starts) r s (omega arith) (rest .starts);
       finishes = written (λ (t : ℕ). t + n < 2 ^ 64) (rows .finishes) r (s + charge length (share tree r)) (omega arith) (rest .finishes);
       virtuals = rest .virtuals;
-      lengths = with-head-room n rows rest r packet length class short .lengths;
+      head-lengths = with-head-room n rows rest r packet length class short .head-lengths;
     }
   where
     s : ℕ
     s = next-start tree why r rows
 
-    rest : Room n rows
+    rest : Leeway n rows
     rest = less-room (n + most-charge) n rows (omega arith) room
 
-takes-room : (n : ℕ) (tree : Tree) (rows : Rows) → Room (n + most-choice) rows
-    → (why : Why) (p k : ℕ) → Room n (takes tree why p k rows)
+takes-room : (n : ℕ) (tree : Tree) (rows : Rows) → Leeway (n + most-choice) rows
+    → (why : Why) (p k : ℕ) → Leeway n (takes tree why p k rows)
 unfolding takes
 takes-room n tree rows room why p k = go (eqb p 0)
   where
     short : head-length rows k ≤ most-bytes
-    short = room .lengths k
+    short = room .head-lengths k
 
     passed : Rows
     passed = with-virtual p (raised tree rows p + ticks * head-length rows k) rows
 
-    after : Room (n + most-charge) passed
+    after : Leeway (n + most-charge) passed
     after =
         let enough = less-room (n + most-choice) (n + most-charge + most-passed) rows (omega arith) room in
         let small = raised-room (n + most-charge + most-passed) tree rows enough p in
         passed-room (n + most-charge) (raised tree rows p) rows small enough p (head-length rows k) short
 
     go : (root : Bool)
-        → Room n (cond root (with-head p (head rows k) (head-length rows k) (head-class rows k) passed)
+        → Leeway n (cond root (with-head p (head rows k) (head-length rows k) (head-class rows k) passed)
         (new-head tree why p (head rows k) (head-length rows k) (head-class rows k) passed))
     go true =
         let rest = less-room (n + most-charge) n passed (omega arith) after in
         with-head-room n passed rest p (head rows k) (head-length rows k) (head-class rows k) short
     go false = new-head-room n tree passed after why p (head rows k) (head-length rows k) (head-class rows k) short
 
-chooses-room : (n : ℕ) (tree : Tree) (rows : Rows) → Room (n + most-choice) rows
-    → (why : Why) (p : ℕ) → Room n (chooses tree why p rows)
+chooses-room : (n : ℕ) (tree : Tree) (rows : Rows) → Leeway (n + most-choice) rows
+    → (why : Why) (p : ℕ) → Leeway n (chooses tree why p rows)
 unfolding chooses
 chooses-room n tree rows room why p = go (eqb k 0)
   where
     k : ℕ
     k = pick tree rows p
 
-    go : (none : Bool) → Room n (cond none (with-head p 0 0 0 rows) (takes tree why p k rows))
+    go : (none : Bool) → Leeway n (cond none (with-head p 0 0 0 rows) (takes tree why p k rows))
     go true = with-head-room n rows (less-room (n + most-choice) n rows (omega arith) room) p 0 0 0 (omega arith)
     go false = takes-room n tree rows room why p k
 
 -- the same where d choices were left
 pub chosen-room : (d : ℕ) (tree : Tree) (why : Why) (p : ℕ) (rows next : Rows) → 0 < d → next ≡ chooses tree why p rows
-    → Room (d * most-choice) rows → Room ((d - 1) * most-choice) next
+    → Leeway (d * most-choice) rows → Leeway ((d - 1) * most-choice) next
 chosen-room d tree why p rows next some same room =
     same-room same
     (chooses-room ((d - 1) * most-choice) tree rows
     (less-room (d * most-choice) ((d - 1) * most-choice + most-choice) rows (omega arith) room) why p)
 
 -- small tags have room for an event: a packet charged to its class and a choice at each row above it
-pub small-room : (n : ℕ) (rows : Rows) → n + 2 ^ 62 < 2 ^ 64 → Small rows → Room n rows
+pub small-room : (n : ℕ) (rows : Rows) → n + 2 ^ 62 < 2 ^ 64 → Small rows → Leeway n rows
 small-room n rows few small =
     record {
       starts = λ i. let h = small .starts i in omega arith;
       finishes = λ i. let h = small .finishes i in omega arith;
       virtuals = λ i. let h = small .virtuals i in omega arith;
-      lengths = small .lengths;
+      head-lengths = small .head-lengths;
     }

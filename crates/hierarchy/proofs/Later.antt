@@ -6,11 +6,11 @@ use mathlib.Core.List.{List, [], _∷_}
 use native.Mathlib.Omega.{arith}
 use lib.ListN.{take}
 use Rattle.rules.specs.declared.Why.the-variants.{Finished}
-use Rattle.rules.specs.Limits.{most-bytes}
-use Rattle.rules.specs.Classes.{Tree}
+use Rattle.input.specs.Limits.{most-bytes}
+use Rattle.input.specs.Classes.{Tree}
 use Rattle.rules.specs.Box.{Packet, Rows}
 use Rattle.rules.specs.Steps.{new-head, renews}
-use Rattle.choosing.specs.Sizes.{Room, most-charge}
+use Rattle.choosing.specs.Sizes.{Leeway, most-charge}
 use Rattle.choosing.proofs.Ticks.{less-room}
 use Rattle.hierarchy.specs.Next.{next-of}
 use Rattle.hierarchy.proofs.Enough.{new-head-room}
@@ -30,7 +30,7 @@ module _ (tree : Tree) (k : ℕ) (rows : Rows) where
   renews-some zero length some = absurd (some refl)
   renews-some (suc place) length some = refl
 
-  pub renews-room : (n next length : ℕ) → length ≤ most-bytes → Room (n + most-charge) rows → Room n (renews tree k (next-of next length) rows)
+  pub renews-room : (n next length : ℕ) → length ≤ most-bytes → Leeway (n + most-charge) rows → Leeway n (renews tree k (next-of next length) rows)
   unfolding renews next-of
   renews-room n zero length short room = less-room (n + most-charge) n rows (omega arith) room
   renews-room n (suc place) length short room = new-head-room n tree rows room Finished k (suc place) length k short

@@ -1,6 +1,6 @@
 -- Sizes: what the steps ask of the numbers in the rows so that no sum wraps.
 use Prim.Native.Nat.{ℕ, _*_, _≤_, _^_}
-use Rattle.rules.specs.Limits.{most-rows, most-bytes}
+use Rattle.input.specs.Limits.{most-rows, most-bytes}
 use Rattle.rules.specs.Box.{Rows, start, finish, virtual, head-length}
 use Rattle.choosing.specs.Sizes.{most-choice}
 
@@ -9,7 +9,7 @@ pub record Small (rows : Rows) : Type 0 where
   pub starts : (i : ℕ) → start rows i ≤ 2 ^ 62
   pub finishes : (i : ℕ) → finish rows i ≤ 2 ^ 62
   pub virtuals : (i : ℕ) → virtual rows i ≤ 2 ^ 62
-  pub lengths : (i : ℕ) → head-length rows i ≤ most-bytes
+  pub head-lengths : (i : ℕ) → head-length rows i ≤ most-bytes
 
 -- ticks by which the choices from a row up to the root raise a tag, at most one choice for each row that there can be
 abbrev pub most-climb : ℕ

@@ -7,11 +7,12 @@ ghost use mathlib.Core.Path.{_≡_};
 ghost use mathlib.Core.List.{List};
 ghost use Prim.Native.Nat.{ℕ, _+_, _<_, _≤_, _^_};
 ghost use lib.ListN.{getD, take};
-ghost use Rattle.rules.specs.Limits.{most-rows, most-bytes};
+ghost use Rattle.input.specs.Limits.{most-rows, most-bytes};
 ghost use Rattle.rules.specs.Box.{Packet};
 ghost use Rattle.rules.specs.Steps as steps;
-ghost use Rattle.choosing.specs.Arrays.{tree, rows-of, Inside};
-ghost use Rattle.choosing.specs.Sizes.{Room, most-charge};
+ghost use Rattle.input.specs.Lent.{tree-with};
+ghost use Rattle.choosing.specs.Arrays.{rows-of, Inside};
+ghost use Rattle.choosing.specs.Sizes.{Leeway, most-charge};
 ghost use Rattle.hierarchy.specs.Sizes.{Small, most-climb};
 ghost use Rattle.hierarchy.specs.Next.{next-of};
 use rules::Why;
@@ -25,8 +26,8 @@ fn up(
     finishes: &mut [u64; 256],
     virtuals: &mut [u64; 256],
     heads: &mut [u32; 256],
-    lengths: &mut [u32; 256],
-    classes: &mut [u32; 256],
+    head_lengths: &mut [u32; 256],
+    head_classes: &mut [u32; 256],
     why: Why,
     row: usize,
     depth: u32,
@@ -35,13 +36,13 @@ fn up(
     requires { ⌜ row < most-rows ⌝ }
     requires { ⌜ depth ≤ most-rows ⌝ }
     requires { ⌜ Inside (now parents) ⌝ }
-    requires { ⌜ Room most-climb (rows-of (now starts) (now finishes) (now virtuals) (now heads) (now lengths) (now classes)) ⌝ }
+    requires { ⌜ Leeway most-climb (rows-of (now starts) (now finishes) (now virtuals) (now heads) (now «head_lengths») (now «head_classes»)) ⌝ }
     ensures { λ _. ⌜ ((ids depths : List ℕ)
         → rows-of (now (starts .exit)) (now (finishes .exit)) (now (virtuals .exit))
-        (now (heads .exit)) (now (lengths .exit)) (now (classes .exit))
-        ≡ steps.up depth (tree rows ids (now (parents .entry)) depths (now (shares .entry))) why row
+        (now (heads .exit)) (now («head_lengths» .exit)) (now («head_classes» .exit))
+        ≡ steps.up depth (tree-with rows ids (now (parents .entry)) depths (now (shares .entry))) why row
         (rows-of (now (starts .entry)) (now (finishes .entry)) (now (virtuals .entry))
-        (now (heads .entry)) (now (lengths .entry)) (now (classes .entry)))) ⌝ }
+        (now (heads .entry)) (now («head_lengths» .entry)) (now («head_classes» .entry)))) ⌝ }
 {
     let mut d = depth;
     let mut r = row;
@@ -59,8 +60,8 @@ fn up(
             finishes,
             virtuals,
             heads,
-            lengths,
-            classes,
+            head_lengths,
+            head_classes,
             why,
             p,
         );
@@ -73,25 +74,25 @@ pub fn finish_first(
     parents: &[u32; 256],
     depths: &[u32; 256],
     heads: &mut [u32; 256],
-    lengths: &mut [u32; 256],
-    classes: &mut [u32; 256],
+    head_lengths: &mut [u32; 256],
+    head_classes: &mut [u32; 256],
     k: usize,
 )
     requires { ⌜ k < most-rows ⌝ }
     requires { ⌜ Inside (now parents) ⌝ }
     ensures { λ _. ⌜ ((rows : ℕ) (ids shares starts finishes virtuals : List ℕ)
-        → rows-of starts finishes virtuals (now (heads .exit)) (now (lengths .exit)) (now (classes .exit))
-        ≡ steps.leaves (tree rows ids (now (parents .entry)) (now (depths .entry)) shares) k
-        (rows-of starts finishes virtuals (now (heads .entry)) (now (lengths .entry)) (now (classes .entry)))) ⌝ }
+        → rows-of starts finishes virtuals (now (heads .exit)) (now («head_lengths» .exit)) (now («head_classes» .exit))
+        ≡ steps.leaves (tree-with rows ids (now (parents .entry)) (now (depths .entry)) shares) k
+        (rows-of starts finishes virtuals (now (heads .entry)) (now («head_lengths» .entry)) (now («head_classes» .entry)))) ⌝ }
 {
     let mut left = depths[k];
     let mut r = k;
     while 0 < left {
-        choosing::set_head(heads, lengths, classes, r, 0, 0, 0);
+        choosing::set_head(heads, head_lengths, head_classes, r, 0, 0, 0);
         r = parents[r] as usize;
         left -= 1;
     }
-    choosing::set_head(heads, lengths, classes, r, 0, 0, 0);
+    choosing::set_head(heads, head_lengths, head_classes, r, 0, 0, 0);
 }
 
 // The next packet of class k, if it has one, is its head.
@@ -102,8 +103,8 @@ fn renew(
     finishes: &mut [u64; 256],
     virtuals: &[u64; 256],
     heads: &mut [u32; 256],
-    lengths: &mut [u32; 256],
-    classes: &mut [u32; 256],
+    head_lengths: &mut [u32; 256],
+    head_classes: &mut [u32; 256],
     k: usize,
     next: u32,
     length: u32,
@@ -111,13 +112,13 @@ fn renew(
     requires { ⌜ k < most-rows ⌝ }
     requires { ⌜ Inside (now parents) ⌝ }
     requires { ⌜ length ≤ most-bytes ⌝ }
-    requires { ⌜ Room most-charge (rows-of (now starts) (now finishes) (now virtuals) (now heads) (now lengths) (now classes)) ⌝ }
+    requires { ⌜ Leeway most-charge (rows-of (now starts) (now finishes) (now virtuals) (now heads) (now «head_lengths») (now «head_classes»)) ⌝ }
     ensures { λ _. ⌜ ((rows : ℕ) (ids depths : List ℕ)
         → rows-of (now (starts .exit)) (now (finishes .exit)) (now (virtuals .exit))
-        (now (heads .exit)) (now (lengths .exit)) (now (classes .exit))
-        ≡ steps.renews (tree rows ids (now (parents .entry)) depths (now (shares .entry))) k (next-of next length)
+        (now (heads .exit)) (now («head_lengths» .exit)) (now («head_classes» .exit))
+        ≡ steps.renews (tree-with rows ids (now (parents .entry)) depths (now (shares .entry))) k (next-of next length)
         (rows-of (now (starts .entry)) (now (finishes .entry)) (now (virtuals .entry))
-        (now (heads .entry)) (now (lengths .entry)) (now (classes .entry)))) ⌝ }
+        (now (heads .entry)) (now («head_lengths» .entry)) (now («head_classes» .entry)))) ⌝ }
 {
     if next == 0 {
         return;
@@ -131,8 +132,8 @@ fn renew(
         finishes,
         virtuals,
         heads,
-        lengths,
-        classes,
+        head_lengths,
+        head_classes,
         why,
         k,
         next,
@@ -152,8 +153,8 @@ pub fn go_on(
     finishes: &mut [u64; 256],
     virtuals: &mut [u64; 256],
     heads: &mut [u32; 256],
-    lengths: &mut [u32; 256],
-    classes: &mut [u32; 256],
+    head_lengths: &mut [u32; 256],
+    head_classes: &mut [u32; 256],
     k: usize,
     next: u32,
     length: u32,
@@ -163,13 +164,13 @@ pub fn go_on(
     requires { ⌜ getD (now depths) k 0 ≤ most-rows ⌝ }
     requires { ⌜ length ≤ most-bytes ⌝ }
     requires { ⌜ Inside (now parents) ⌝ }
-    requires { ⌜ Small (rows-of (now starts) (now finishes) (now virtuals) (now heads) (now lengths) (now classes)) ⌝ }
+    requires { ⌜ Small (rows-of (now starts) (now finishes) (now virtuals) (now heads) (now «head_lengths») (now «head_classes»)) ⌝ }
     ensures { λ _. ⌜ ((ids : List ℕ) (later : List Packet) → take 1 later ≡ next-of next length
         → rows-of (now (starts .exit)) (now (finishes .exit)) (now (virtuals .exit))
-        (now (heads .exit)) (now (lengths .exit)) (now (classes .exit))
-        ≡ steps.goes-on (tree rows ids (now (parents .entry)) (now (depths .entry)) (now (shares .entry))) k later
+        (now (heads .exit)) (now («head_lengths» .exit)) (now («head_classes» .exit))
+        ≡ steps.goes-on (tree-with rows ids (now (parents .entry)) (now (depths .entry)) (now (shares .entry))) k later
         (rows-of (now (starts .entry)) (now (finishes .entry)) (now (virtuals .entry))
-        (now (heads .entry)) (now (lengths .entry)) (now (classes .entry)))) ⌝ }
+        (now (heads .entry)) (now («head_lengths» .entry)) (now («head_classes» .entry)))) ⌝ }
 {
     renew(
         parents,
@@ -178,8 +179,8 @@ pub fn go_on(
         finishes,
         virtuals,
         heads,
-        lengths,
-        classes,
+        head_lengths,
+        head_classes,
         k,
         next,
         length,
@@ -192,8 +193,8 @@ pub fn go_on(
         finishes,
         virtuals,
         heads,
-        lengths,
-        classes,
+        head_lengths,
+        head_classes,
         Why::Finished,
         k,
         depths[k],
@@ -210,8 +211,8 @@ pub fn arrive(
     finishes: &mut [u64; 256],
     virtuals: &mut [u64; 256],
     heads: &mut [u32; 256],
-    lengths: &mut [u32; 256],
-    classes: &mut [u32; 256],
+    head_lengths: &mut [u32; 256],
+    head_classes: &mut [u32; 256],
     place: u32,
     k: usize,
     length: u32,
@@ -222,13 +223,13 @@ pub fn arrive(
     requires { ⌜ getD (now depths) k 0 ≤ most-rows ⌝ }
     requires { ⌜ length ≤ most-bytes ⌝ }
     requires { ⌜ Inside (now parents) ⌝ }
-    requires { ⌜ Small (rows-of (now starts) (now finishes) (now virtuals) (now heads) (now lengths) (now classes)) ⌝ }
+    requires { ⌜ Small (rows-of (now starts) (now finishes) (now virtuals) (now heads) (now «head_lengths») (now «head_classes»)) ⌝ }
     ensures { λ _. ⌜ ((ids : List ℕ)
         → rows-of (now (starts .exit)) (now (finishes .exit)) (now (virtuals .exit))
-        (now (heads .exit)) (now (lengths .exit)) (now (classes .exit))
-        ≡ steps.arrives (tree rows ids (now (parents .entry)) (now (depths .entry)) (now (shares .entry))) place k length
+        (now (heads .exit)) (now («head_lengths» .exit)) (now («head_classes» .exit))
+        ≡ steps.arrives (tree-with rows ids (now (parents .entry)) (now (depths .entry)) (now (shares .entry))) place k length
         (rows-of (now (starts .entry)) (now (finishes .entry)) (now (virtuals .entry))
-        (now (heads .entry)) (now (lengths .entry)) (now (classes .entry)))) ⌝ }
+        (now (heads .entry)) (now («head_lengths» .entry)) (now («head_classes» .entry)))) ⌝ }
 {
     if choosing::has_head(heads, k) {
         return;
@@ -243,8 +244,8 @@ pub fn arrive(
         finishes,
         virtuals,
         heads,
-        lengths,
-        classes,
+        head_lengths,
+        head_classes,
         why,
         k,
         packet,
@@ -259,8 +260,8 @@ pub fn arrive(
         finishes,
         virtuals,
         heads,
-        lengths,
-        classes,
+        head_lengths,
+        head_classes,
         why,
         k,
         depths[k],

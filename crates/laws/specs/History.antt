@@ -4,13 +4,13 @@ use mathlib.Core.Path.{_≡_}
 use mathlib.Core.Bool.{cond}
 use mathlib.Core.List.{List, [], _∷_, _++_}
 use lib.ListN.{getD}
-use Rattle.rules.specs.Classes.{Tree, parent}
-use Rattle.rules.specs.Events.{Events, length-word, event}
+use Rattle.input.specs.Classes.{Tree, parent}
+use Rattle.input.specs.Events.{Events, length-word, event}
 use Rattle.rules.specs.Box.{bytes-of, held-by}
 use Rattle.rules.specs.Steps.{after}
-use Rattle.rules.specs.Refusals.{event-refused}
+use Rattle.rules.specs.Refused.{event-refused}
 use Rattle.rules.specs.Promise.{for-part}
-use Rattle.rules.specs.declared.Event.the-variants.{Arrival, Finish}
+use Rattle.input.specs.declared.Event.the-variants.{Arrival, Finish}
 use Rattle.laws.specs.Sound.{Sound}
 
 -- a sound tree, and events the first n of which are not refused

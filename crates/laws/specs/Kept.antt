@@ -7,10 +7,10 @@ use mathlib.Core.Bool.{cond}
 use mathlib.Core.List.{List, [], _∷_}
 use lib.Dec.{eqb}
 use lib.ListN.{length}
-use Rattle.rules.specs.declared.Event.{Event}
-use Rattle.rules.specs.declared.Event.the-variants.{Arrival, Finish}
-use Rattle.rules.specs.Limits.{most-rows, ticks, whole}
-use Rattle.rules.specs.Classes.{Tree, share, row-of, child, children-share}
+use Rattle.input.specs.declared.Event.{Event}
+use Rattle.input.specs.declared.Event.the-variants.{Arrival, Finish}
+use Rattle.input.specs.Limits.{most-rows, ticks, whole}
+use Rattle.input.specs.Classes.{Tree, share, row-of, child, children-share}
 use Rattle.rules.specs.Box.{Packet, Rows, Box, start, finish, virtual, head, head-length, head-class, has-head, held-by, queue-of}
 use Rattle.laws.specs.Sound.{Kid, Inner, Sender}
 use Rattle.laws.specs.Moves.{Full, SameHead, Settled}

@@ -3,7 +3,7 @@ use Prim.Native.Nat.{ℕ, zero, suc, _+_, _*_, _-_, _≤_, _<_, max}
 use mathlib.Core.Logic.{_⊎_}
 use mathlib.Core.Bool.{cond}
 use lib.Dec.{leb}
-use Rattle.rules.specs.Limits.{whole, scale}
+use Rattle.input.specs.Limits.{whole, scale}
 
 -- a child: without a head, with its finish; with a head, start and finish; or taken, with its finish
 pub data Mode : Type 0 where

@@ -5,4 +5,4 @@ pub mod Level
 pub mod Kept
 pub mod Line
 pub mod History
-pub mod Counts
+pub mod Pace

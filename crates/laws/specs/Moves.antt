@@ -5,9 +5,9 @@ use mathlib.Core.Path.{_≡_}
 use mathlib.Core.Logic.{_≢_, _⊎_}
 use mathlib.Core.Bool.{true}
 use lib.ListN.{length}
-use Rattle.rules.specs.Limits.{most-rows, ticks}
-use Rattle.rules.specs.Shares.{charge}
-use Rattle.rules.specs.Classes.{Tree, share}
+use Rattle.input.specs.Limits.{most-rows, ticks}
+use Rattle.input.specs.Shares.{charge}
+use Rattle.input.specs.Classes.{Tree, share}
 use Rattle.rules.specs.Box.{Rows, start, finish, virtual, head, head-length, head-class}
 use Rattle.rules.specs.Promise.{within}
 use Rattle.laws.specs.Sound.{Kid, Inner, Sender}
@@ -20,8 +20,8 @@ pub record Full (a : Rows) : Type 0 where
   pub finishes-full : length (a .finishes) ≡ most-rows
   pub virtuals-full : length (a .virtuals) ≡ most-rows
   pub heads-full : length (a .heads) ≡ most-rows
-  pub lengths-full : length (a .lengths) ≡ most-rows
-  pub classes-full : length (a .classes) ≡ most-rows
+  pub head-lengths-full : length (a .head-lengths) ≡ most-rows
+  pub head-classes-full : length (a .head-classes) ≡ most-rows
 
 -- row j of b has the head that row i of a has
 pub record SameHead (a : Rows) (i : ℕ) (b : Rows) (j : ℕ) : Type 0 where

@@ -4,9 +4,9 @@ use mathlib.Core.Path.{_≡_}
 use mathlib.Core.Bool.{true, false}
 use lib.Dec.{T}
 use lib.ListN.{length}
-use Rattle.rules.specs.Limits.{most-rows, most-depth, most-bytes, whole}
-use Rattle.rules.specs.Shares.{allowed}
-use Rattle.rules.specs.Classes.{Tree, parent, depth, share, row-of, sends, children-share}
+use Rattle.input.specs.Limits.{most-rows, most-depth, most-bytes, whole}
+use Rattle.input.specs.Shares.{allowed}
+use Rattle.input.specs.Classes.{Tree, parent, depth, share, row-of, sends, children-share}
 
 pub record Sound (tree : Tree) : Type 0 where
   pub some-rows : 0 < tree .rows

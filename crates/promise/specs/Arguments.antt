@@ -2,7 +2,7 @@
 use Prim.Native.Nat.{ℕ}
 use mathlib.Core.Bool.{cond, _||_}
 use lib.Dec.{ltb}
-use Rattle.rules.specs.Limits.{least-bytes, most-bytes}
+use Rattle.input.specs.Limits.{least-bytes, most-bytes}
 use Rattle.text.specs.declared.Field.{Field}
 use Rattle.text.specs.declared.Field.the-variants.{Empty, Number, Over, Other}
 use Rattle.promise.specs.declared.asked.Asked.{Asked}

@@ -12,8 +12,8 @@ use libc::STDOUT_FILENO;
 use output::flush;
 use output::onto;
 use output::put_text;
-use rules::Answer;
-use rules::Refusal;
+use input::Answer;
+use input::Refusal;
 use text::Field;
 use text::Kind;
 

@@ -4,7 +4,7 @@ ghost use Prim.Native.Nat.{_+_, _-_, _≤_, _<_};
 ghost use lib.ListN.{getD, set};
 ghost use lib.ListN as lists;
 ghost use lib.Seq.{sets};
-ghost use Rattle.rules.specs.Limits.{most-rows, most-events};
+ghost use Rattle.input.specs.Limits.{most-rows, most-events};
 ghost use Rattle.queues.specs.Words.{followed, shortened, length-of, sent-word};
 
 fn wide(x: u32) -> usize

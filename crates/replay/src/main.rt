@@ -9,7 +9,7 @@ use libc::STDOUT_FILENO;
 use output::flush;
 use output::onto;
 use output::put_text;
-use rules::Answer;
+use input::Answer;
 
 // A column has room for one row more than a run takes, so that it refuses a longer table.
 fn main() {

@@ -8,7 +8,7 @@ use output::put_number;
 use output::put_signed;
 use output::put_text;
 use output::put_then;
-use rules::Answer;
+use input::Answer;
 use sentences::put_answer;
 
 // Words of the report for a row.

@@ -4,8 +4,8 @@ use Prim.Native.Nat.{ℕ, zero, suc, _*_}
 use mathlib.Core.Path.{_≡_, refl}
 use native.Mathlib.Omega.{arith}
 use lib.ListN.{length, length-append}
-use Rattle.rules.specs.Limits.{report-words}
-use Rattle.rules.specs.Classes.{Tree}
+use Rattle.input.specs.Limits.{report-words}
+use Rattle.input.specs.Classes.{Tree}
 use Rattle.rules.specs.Box.{Box}
 use Rattle.rules.specs.Outcome.{row-report, report-of, lags-of}
 

@@ -2,9 +2,9 @@
 -- Assumes nothing.
 use mathlib.Core.Path.{_≡_, refl}
 use mathlib.Core.List.{map}
-use Rattle.rules.specs.Shares.{allowed, cost, charge}
-use Rattle.rules.specs.Classes.{place-of, earlier, parent-of, zeros, with-row, read, tree-of, row-of, child, has-child, sends, children-share}
-use Rattle.rules.specs.Events.{decode, event}
+use Rattle.input.specs.Shares.{allowed, cost, charge}
+use Rattle.input.specs.Classes.{place-of, earlier, parent-of, zeros, with-row, read, tree-of, row-of, child, has-child, sends, children-share}
+use Rattle.input.specs.Events.{decode, event}
 use Rattle.rules.specs.Box.{fresh, has-head}
 use Rattle.rules.specs.Steps
 use Rattle.rules.specs.Refusals

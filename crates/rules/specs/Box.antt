@@ -4,8 +4,8 @@ use mathlib.Core.Bool.{Bool, not}
 use mathlib.Core.List.{List, []}
 use lib.Dec.{eqb}
 use lib.ListN.{getD, replicate}
-use Rattle.rules.specs.Limits.{most-rows}
-use Rattle.rules.specs.Classes.{zeros}
+use Rattle.input.specs.Limits.{most-rows}
+use Rattle.input.specs.Classes.{zeros}
 
 -- a packet: the place of the event in which it arrived, and its bytes
 pub record Packet : Type 0 where
@@ -19,8 +19,8 @@ pub record Rows : Type 0 where
   pub finishes : List ℕ
   pub virtuals : List ℕ
   pub heads : List ℕ
-  pub lengths : List ℕ
-  pub classes : List ℕ
+  pub head-lengths : List ℕ
+  pub head-classes : List ℕ
 
 -- the whole box: for each row the bytes that it finished, the packets that it holds, and its own and its parent's bytes
 -- finished when its backlog began; for each sending class the packets it holds, first in first; the order so far
@@ -37,7 +37,7 @@ pub record Box : Type 0 where
 unfoldable pub fresh : Box
 fresh =
     record {
-      rows = record { starts = zeros; finishes = zeros; virtuals = zeros; heads = zeros; lengths = zeros; classes = zeros };
+      rows = record { starts = zeros; finishes = zeros; virtuals = zeros; heads = zeros; head-lengths = zeros; head-classes = zeros };
       bytes = zeros;
       held = zeros;
       since = zeros;
@@ -59,10 +59,10 @@ abbrev pub head : Rows → ℕ → ℕ
 head rows r = getD (rows .heads) r 0
 
 abbrev pub head-length : Rows → ℕ → ℕ
-head-length rows r = getD (rows .lengths) r 0
+head-length rows r = getD (rows .head-lengths) r 0
 
 abbrev pub head-class : Rows → ℕ → ℕ
-head-class rows r = getD (rows .classes) r 0
+head-class rows r = getD (rows .head-classes) r 0
 
 unfoldable pub has-head : Rows → ℕ → Bool
 has-head rows r = not (eqb (head rows r) 0)

@@ -5,14 +5,15 @@ use mathlib.Core.List.{List, [], _∷_, _++_}
 use lib.Dec.{eqb}
 use lib.ListN.{length, getD, drop, replicate}
 use lib.IntN.{ℤ, pos, _-ℤ_}
-use Rattle.rules.specs.declared.Refusal.{Refusal}
-use Rattle.rules.specs.declared.Answer.{Answer}
-use Rattle.rules.specs.Limits.{whole}
-use Rattle.rules.specs.Classes.{Table, Tree, tree-of, parent, share, sends}
-use Rattle.rules.specs.Events.{Events, count}
+use Rattle.input.specs.declared.Refusal.{Refusal}
+use Rattle.input.specs.declared.Answer.{Answer}
+use Rattle.input.specs.Limits.{whole}
+use Rattle.input.specs.Classes.{Table, Tree, tree-of, parent, share, sends}
+use Rattle.input.specs.Events.{Events, count}
 use Rattle.rules.specs.Box.{Box, start, finish, virtual, bytes-of, held-by}
 use Rattle.rules.specs.Steps.{after}
-use Rattle.rules.specs.Refusals.{Room, refused}
+use Rattle.input.specs.Refusals.{Room}
+use Rattle.rules.specs.Refused.{refused}
 
 -- what is lent to the run
 pub record Lent : Type 0 where

@@ -4,11 +4,11 @@ use mathlib.Core.Bool.{Bool, cond, _||_}
 use mathlib.Core.List.{List, [], _∷_}
 use lib.Dec.{eqb}
 use lib.ListN.{take, drop}
-use Rattle.rules.specs.declared.Event.{Event}
-use Rattle.rules.specs.declared.Event.the-variants.{Arrival, Finish}
-use Rattle.rules.specs.Limits.{whole}
-use Rattle.rules.specs.Classes.{Tree, parent, depth, share, row-of}
-use Rattle.rules.specs.Events.{Events, class-word, length-word, event}
+use Rattle.input.specs.declared.Event.{Event}
+use Rattle.input.specs.declared.Event.the-variants.{Arrival, Finish}
+use Rattle.input.specs.Limits.{whole}
+use Rattle.input.specs.Classes.{Tree, parent, depth, share, row-of}
+use Rattle.input.specs.Events.{Events, class-word, length-word, event}
 
 -- ── parts of the tree ──
 

@@ -4,14 +4,14 @@ use mathlib.Core.Bool.{Bool, cond, not, _&&_, _||_}
 use mathlib.Core.List.{List, [], _∷_, _++_, tail}
 use lib.Dec.{leb, ltb, eqb}
 use lib.ListN.{getD, set}
-use Rattle.rules.specs.declared.Event.{Event}
-use Rattle.rules.specs.declared.Event.the-variants.{Arrival, Finish}
+use Rattle.input.specs.declared.Event.{Event}
+use Rattle.input.specs.declared.Event.the-variants.{Arrival, Finish}
 use Rattle.rules.specs.declared.Why.{Why}
 use Rattle.rules.specs.declared.Why.the-variants.{Finished, Arrived}
-use Rattle.rules.specs.Limits.{ticks}
-use Rattle.rules.specs.Shares.{charge}
-use Rattle.rules.specs.Classes.{Tree, parent, depth, share, child, row-of}
-use Rattle.rules.specs.Events.{Events, event}
+use Rattle.input.specs.Limits.{ticks}
+use Rattle.input.specs.Shares.{charge}
+use Rattle.input.specs.Classes.{Tree, parent, depth, share, child, row-of}
+use Rattle.input.specs.Events.{Events, event}
 use Rattle.rules.specs.Box.{Packet, Rows, Box, fresh, start, finish, virtual, head, head-length, head-class, has-head}
 use Rattle.rules.specs.Box.{bytes-of, held-by, queue-of}
 
@@ -25,8 +25,8 @@ with-head r packet length class rows =
       finishes = rows .finishes;
       virtuals = rows .virtuals;
       heads = set (rows .heads) r packet;
-      lengths = set (rows .lengths) r length;
-      classes = set (rows .classes) r class;
+      head-lengths = set (rows .head-lengths) r length;
+      head-classes = set (rows .head-classes) r class;
     }
 
 unfoldable pub with-virtual : ℕ → ℕ → Rows → Rows
@@ -36,8 +36,8 @@ with-virtual r v rows =
       finishes = rows .finishes;
       virtuals = set (rows .virtuals) r v;
       heads = rows .heads;
-      lengths = rows .lengths;
-      classes = rows .classes;
+      head-lengths = rows .head-lengths;
+      head-classes = rows .head-classes;
     }
 
 -- a packet of this length is charged to row r from the start s on
@@ -48,8 +48,8 @@ charged tree r s length rows =
       finishes = set (rows .finishes) r (s + charge length (share tree r));
       virtuals = rows .virtuals;
       heads = rows .heads;
-      lengths = rows .lengths;
-      classes = rows .classes;
+      head-lengths = rows .head-lengths;
+      head-classes = rows .head-classes;
     }
 
 -- where a row's next packet starts: at the row's finish if its last packet has just finished, else not before its parent's virtual time
@@ -136,8 +136,8 @@ leaves tree k rows =
       finishes = rows .finishes;
       virtuals = rows .virtuals;
       heads = along tree (λ r n. 0) k (rows .heads);
-      lengths = along tree (λ r n. 0) k (rows .lengths);
-      classes = along tree (λ r n. 0) k (rows .classes);
+      head-lengths = along tree (λ r n. 0) k (rows .head-lengths);
+      head-classes = along tree (λ r n. 0) k (rows .head-classes);
     }
 
 -- the next packet of class k, if it has one, is its head

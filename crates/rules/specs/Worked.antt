@@ -4,7 +4,7 @@ use Prim.Native.Nat.{ℕ, _+_, _*_}
 use mathlib.Core.List.{List, [], _∷_, _++_, map}
 use lib.ListN.{length, getD, take, drop, replicate}
 use lib.IntN.{ℤ, pos, negsuc}
-use Rattle.rules.specs.Limits.{report-words}
+use Rattle.input.specs.Limits.{report-words}
 use Rattle.rules.specs.Outcome.{Lent, Outcome}
 
 -- ── inputs ──
@@ -35,7 +35,7 @@ lend rows events =
     record {
       table = record {
         identifiers = map (λ (r : Row). r .identifier) rows;
-        parents = map (λ (r : Row). r .parent) rows;
+        parent-identifiers = map (λ (r : Row). r .parent) rows;
         shares = map (λ (r : Row). r .share) rows;
       };
       events = record {

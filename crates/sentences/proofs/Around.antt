@@ -7,7 +7,7 @@ use native.Mathlib.Nat.{add-zero, add-suc}
 use native.Mathlib.Decide.{decLe}
 use native.Mathlib.Omega.{arith}
 use borrow.Author.Tests.{le-leb, lt-leb}
-use Rattle.rules.specs.Shares.{allowed}
+use Rattle.input.specs.Shares.{allowed}
 use Rattle.sentences.specs.Nearest.{greatest-below, least-of, least-above}
 
 -- ── downwards ──

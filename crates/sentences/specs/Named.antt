@@ -4,8 +4,8 @@ use mathlib.Core.Bool.{cond}
 use mathlib.Core.List.{List}
 use lib.Dec.{ltb, eqb}
 use lib.ListN.{getD}
-use Rattle.rules.specs.Limits.{most-rows}
-use Rattle.rules.specs.Classes.{place-of}
+use Rattle.input.specs.Limits.{most-rows}
+use Rattle.input.specs.Classes.{place-of}
 
 -- the row with an identifier, as far as a table can have rows; 0 past them
 unfoldable pub row-with : ℕ → List ℕ → ℕ

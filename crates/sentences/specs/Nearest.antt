@@ -1,8 +1,8 @@
 -- The allowed shares on both sides of a number.
 use Prim.Native.Nat.{ℕ, zero, suc, _+_, _-_}
 use mathlib.Core.Bool.{cond}
-use Rattle.rules.specs.Limits.{whole}
-use Rattle.rules.specs.Shares.{allowed}
+use Rattle.input.specs.Limits.{whole}
+use Rattle.input.specs.Shares.{allowed}
 
 -- the greatest allowed share below a number, 0 where there is none
 unfoldable pub greatest-below : ℕ → ℕ

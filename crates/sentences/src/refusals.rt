@@ -1,7 +1,7 @@
 // A refusal as one sentence for a person: where it is and what to mend.
 ghost use mathlib.Core.Path.{_≡_};
 ghost use Prim.Native.Nat.{suc, _<_, _^_};
-ghost use Rattle.rules.specs.Limits.{most-rows};
+ghost use Rattle.input.specs.Limits.{most-rows};
 ghost use Rattle.sentences.specs.Named as named;
 use crate::names::put_class;
 use crate::names::put_event;
@@ -14,7 +14,7 @@ use output::put_byte;
 use output::put_named;
 use output::put_number;
 use output::put_text;
-use rules::Answer;
+use input::Answer;
 
 const MOST_ROWS: usize = 256;
 

@@ -8,8 +8,8 @@ use mathlib.Core.List.{List, [], _∷_, List·Memᴰ, List·Memᴰ·head, List·
 use native.Mathlib.Omega.{arith}
 use lib.Dec.{T}
 use lib.ListN.{length, getD}
-use Rattle.rules.specs.Shares.{allowed, share-table}
-use Rattle.rules.proofs.ShareTable.{holds-every, holds-no-other, entries}
+use Rattle.input.specs.Shares.{allowed, share-table}
+use Rattle.input.proofs.ShareTable.{holds-every, holds-no-other, entries}
 
 -- an entry is in its list
 at-entry : (xs : List ℕ) (i : ℕ) → i < length xs → List·Memᴰ (getD xs i 0) xs

@@ -1,6 +1,6 @@
 // Shares: which are allowed, and what bytes cost under one.
 ghost use mathlib.Core.Path.{_≡_};
-ghost use Rattle.rules.specs.Shares as shares;
+ghost use Rattle.input.specs.Shares as shares;
 
 // Ticks that a byte costs a class with share 1: the scale.
 const SCALE: u32 = 705600;

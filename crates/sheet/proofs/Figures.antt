@@ -8,7 +8,7 @@ use native.Mathlib.Nat.{div-mul-cancel, le-mul-of-pos-right, mul-pos}
 use native.Mathlib.Decide.{ℕ-discrete, decLt}
 use native.Mathlib.Omega.{arith}
 use borrow.Author.Tests.{lt-ltb, le-ltb, eq-eqb, ne-eqb}
-use Rattle.rules.specs.Limits.{whole}
+use Rattle.input.specs.Limits.{whole}
 use Rattle.rules.specs.Promise.{Ratio}
 use Rattle.sheet.specs.declared.Figure.{Figure}
 use Rattle.sheet.specs.Paper.{over, greatest, lowest, limit, figure, outgrown, fitting, raised, stepped}

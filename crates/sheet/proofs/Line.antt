@@ -6,11 +6,11 @@ use mathlib.Core.Bool.{true}
 use native.Mathlib.Nat.{mul-le-mul-right, le-of-mul-le-mul-right, le-div-iff-mul-le, le-trans}
 use native.Mathlib.Omega.{arith}
 use borrow.Author.Tests.{ne-eqb}
-use Rattle.rules.specs.Classes.{Tree, tree-of, parent, depth, share}
-use Rattle.rules.specs.Events.{Events, count}
+use Rattle.input.specs.Classes.{Tree, tree-of, parent, depth, share}
+use Rattle.input.specs.Events.{Events, count}
 use Rattle.rules.specs.Outcome.{Lent, outcome}
 use Rattle.rules.specs.Promise.{Ratio, step-up, climbed, number, largest, bytes-for, finished-in, Backlogged}
-use Rattle.laws.proofs.Run.{sent, share-is-a-number}
+use Rattle.laws.proofs.run.Run.{sent, share-is-a-number}
 use Rattle.sheet.specs.declared.Figure.{Figure}
 use Rattle.sheet.specs.Paper.{over, worked, rounded-up}
 use Rattle.sheet.proofs.Same.{Stands, same}

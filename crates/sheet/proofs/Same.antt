@@ -8,8 +8,8 @@ use mathlib.Core.List.{List}
 use native.Mathlib.Nat.{eq-of-mul-eq-mul-right, mul-pos, mul-dvd-mul-right, le-of-dvd, pos-of-dvd-of-pos, le-of-mul-le-mul-right}
 use native.Mathlib.Omega.{arith}
 use lib.ListN.{getD}
-use Rattle.rules.specs.Limits.{whole}
-use Rattle.rules.specs.Classes.{Tree, parent, share}
+use Rattle.input.specs.Limits.{whole}
+use Rattle.input.specs.Classes.{Tree, parent, share}
 use Rattle.rules.specs.Promise.{Ratio, step-up, climbed}
 use Rattle.sheet.specs.declared.Figure.{Figure}
 use Rattle.sheet.specs.Paper.{over, lowest, figure, raised, stepped, climbing, worked}

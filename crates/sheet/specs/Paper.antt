@@ -4,7 +4,7 @@ use mathlib.Core.Bool.{Bool, true, false, cond, not, _&&_}
 use mathlib.Core.List.{List}
 use lib.Dec.{ltb, eqb}
 use lib.ListN.{getD}
-use Rattle.rules.specs.Limits.{whole}
+use Rattle.input.specs.Limits.{whole}
 use Rattle.rules.specs.Promise.{Ratio}
 use Rattle.sheet.specs.declared.Figure.{Figure}
 

@@ -9,14 +9,14 @@ use native.Mathlib.Omega.{arith}
 use lib.Dec.{eqb, ltb}
 use lib.ListN.{length}
 use borrow.Author.Tests.{eq-eqb, ne-eqb, eqb-true, ltb-false, not-false}
-use Rattle.rules.specs.declared.Refusal.{Refusal}
-use Rattle.rules.specs.Limits.{least-rows, most-rows}
-use Rattle.rules.specs.Classes.{Table, Tree, tree-of}
-use Rattle.rules.specs.Refusals.{or-else, first-below, rows-refused, shares-refused, table-refused}
-use Rattle.laws.proofs.Trees.{given-none, read-rows}
+use Rattle.input.specs.declared.Refusal.{Refusal}
+use Rattle.input.specs.Limits.{least-rows, most-rows}
+use Rattle.input.specs.Classes.{Table, Tree, tree-of}
+use Rattle.input.specs.Refusals.{or-else, first-below, rows-refused, shares-refused, table-refused}
+use Rattle.laws.proofs.tree.Trees.{given-none, read-rows}
 use Rattle.tables.specs.declared.Rows.{Rows}
 use Rattle.tables.specs.declared.Reading.{Reading}
-use Rattle.tables.specs.Lent.{Sized}
+use Rattle.tables.specs.Sized.{Sized}
 use Rattle.tables.specs.Answers.{rows-read, senders-below, accepting, refusing, answer}
 
 pub answer-refuses : (refusal : Refusal) (tree : Tree) → refusal .number ≢ 0 → answer refusal tree ≡ refusing refusal
@@ -33,7 +33,7 @@ pub sized : (table : Table) → rows-refused table .number ≡ 0 → Sized table
 unfolding rows-refused
 sized table none =
     let n = length (table .identifiers) in
-    let a = not (eqb (length (table .parents)) n) in
+    let a = not (eqb (length (table .parent-identifiers)) n) in
     let b = not (eqb (length (table .shares)) n) in
     let c = ltb n least-rows in
     let d = ltb most-rows n in
@@ -42,7 +42,7 @@ sized table none =
     let two = or-is-false a b .0 (three .0) in
     let some = ltb-false n least-rows (three .1) in
     record {
-      parents = eqb-true (length (table .parents)) n (not-false (eqb (length (table .parents)) n) (two .0));
+      parents = eqb-true (length (table .parent-identifiers)) n (not-false (eqb (length (table .parent-identifiers)) n) (two .0));
       shares = eqb-true (length (table .shares)) n (not-false (eqb (length (table .shares)) n) (two .1));
       some = omega arith;
       most = ltb-false most-rows n (all .1);

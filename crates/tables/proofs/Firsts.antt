@@ -10,10 +10,10 @@ use native.Mathlib.Omega.{arith}
 use lib.Dec.{ltb}
 use lib.ListN.{getD}
 use borrow.Author.Tests.{eq-eqb, ne-eqb}
-use Rattle.rules.specs.declared.Refusal.{Refusal}
-use Rattle.rules.specs.Classes.{Table, earlier}
-use Rattle.rules.specs.Refusals.{nothing, given, or-else, first, first-below, doubled, root-refused, class-refused, row-refused, shares-refused, table-refused}
-use Rattle.laws.proofs.Trees.{or-none}
+use Rattle.input.specs.declared.Refusal.{Refusal}
+use Rattle.input.specs.Classes.{Table, earlier}
+use Rattle.input.specs.Refusals.{nothing, given, or-else, first, first-below, doubled, root-refused, class-refused, row-refused, shares-refused, table-refused}
+use Rattle.laws.proofs.tree.Trees.{or-none}
 
 -- ── two ──
 

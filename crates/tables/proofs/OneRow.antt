@@ -11,16 +11,16 @@ use lib.Dec.{eqb}
 use lib.ListN.{length, getD, set}
 use lib.Seq.{getD-set-other}
 use borrow.Author.Tests.{ne-eqb}
-use Rattle.rules.specs.declared.Refusal.{Refusal}
-use Rattle.rules.specs.Limits.{most-rows}
-use Rattle.rules.specs.Classes.{Table, earlier, parent-of, with-row, read, tree-of, depth}
-use Rattle.rules.specs.Refusals.{or-else, first-below, root-refused, class-refused, doubled, row-refused}
-use Rattle.laws.proofs.Tests.{cond-most}
-use Rattle.laws.proofs.Trees.{depth-read, depth-at}
-use Rattle.laws.proofs.Outset.{zeros-at}
+use Rattle.input.specs.declared.Refusal.{Refusal}
+use Rattle.input.specs.Limits.{most-rows}
+use Rattle.input.specs.Classes.{Table, earlier, parent-of, with-row, read, tree-of, depth}
+use Rattle.input.specs.Refusals.{or-else, first-below, root-refused, class-refused, doubled, row-refused}
+use Rattle.laws.proofs.path.Tests.{cond-most}
+use Rattle.laws.proofs.tree.Trees.{depth-read, depth-at}
+use Rattle.laws.proofs.event.Outset.{zeros-at}
 use Rattle.tables.specs.declared.Row.{Row}
 use Rattle.tables.specs.declared.Rows.{Rows}
-use Rattle.tables.specs.Lent.{Sized}
+use Rattle.tables.specs.Sized.{Sized}
 use Rattle.tables.specs.Answers.{class-refusal, row-read, rows-read}
 
 abbrev row-of : Refusal → ℕ → ℕ → Row

@@ -8,7 +8,7 @@ use native.Mathlib.Omega.{arith}
 use lib.ListN.{length, getD, take}
 use lib.Seq.{getD-take, length-take-le}
 use borrow.Author.Tests.{eq-eqb, ne-eqb}
-use Rattle.rules.specs.Classes.{place-of}
+use Rattle.input.specs.Classes.{place-of}
 
 place-here : (x y : ℕ) (ys : List ℕ) → y ≡ x → place-of x (y ∷ ys) ≡ 0
 unfolding place-of

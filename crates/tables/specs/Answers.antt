@@ -4,11 +4,11 @@ use mathlib.Core.Bool.{Bool, false, cond, not}
 use mathlib.Core.List.{List, [], _∷_}
 use lib.Dec.{eqb, ltb}
 use lib.ListN.{set, replicate}
-use Rattle.rules.specs.declared.Refusal.{Refusal}
-use Rattle.rules.specs.Limits.{most-rows, most-depth}
-use Rattle.rules.specs.Shares.{allowed}
-use Rattle.rules.specs.Classes.{Table, Tree, zeros, read, tree-of, depth, parent-of, sends}
-use Rattle.rules.specs.Refusals.{nothing, given, or-else, first, first-below, rows-refused, row-refused, table-refused}
+use Rattle.input.specs.declared.Refusal.{Refusal}
+use Rattle.input.specs.Limits.{most-rows, most-depth}
+use Rattle.input.specs.Shares.{allowed}
+use Rattle.input.specs.Classes.{Table, Tree, zeros, read, tree-of, depth, parent-of, sends}
+use Rattle.input.specs.Refusals.{nothing, given, or-else, first, first-below, rows-refused, row-refused, table-refused}
 use Rattle.tables.specs.declared.Row.{Row}
 use Rattle.tables.specs.declared.Rows.{Rows}
 use Rattle.tables.specs.declared.Reading.{Reading}

@@ -1,3 +1,3 @@
 -- What the contracts on class tables cite.
-pub mod Lent
+pub mod Sized
 pub mod Answers

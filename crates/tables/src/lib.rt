@@ -4,13 +4,14 @@ ghost use mathlib.Core.Path.{_≡_};
 ghost use mathlib.Core.Bool.{cond};
 ghost use Prim.Native.Nat.{_≤_, _<_, _^_};
 ghost use lib.ListN.{length, take};
-ghost use Rattle.rules.specs.Limits.{most-rows};
-ghost use Rattle.rules.specs.Classes.{Tree, Table, place-of, read, tree-of, share, child, has-child, sends, children-share};
-ghost use Rattle.rules.specs.Refusals.{nothing, given, or-else, first-below, rows-refused, root-refused, shares-refused, table-refused};
-ghost use Rattle.tables.specs.Lent.{table-of, Sized};
+ghost use Rattle.input.specs.Limits.{most-rows};
+ghost use Rattle.input.specs.Classes.{Tree, Table, place-of, read, tree-of, share, child, has-child, sends, children-share};
+ghost use Rattle.input.specs.Refusals.{nothing, given, or-else, first-below, rows-refused, root-refused, shares-refused, table-refused};
+ghost use Rattle.input.specs.Lent.{table-of};
+ghost use Rattle.tables.specs.Sized.{Sized};
 ghost use Rattle.tables.specs.Answers.{refusal-of, class-refusal, row-read, rows-read, senders-below, answer, reading};
 ghost use Rattle.tables.specs.Answers as answers;
-use rules::Refusal;
+use input::Refusal;
 
 const LEAST_ROWS: usize = 2;
 
@@ -108,11 +109,11 @@ pub fn row_of(identifiers: &[u32], class: u32) -> usize
 }
 
 // 1: the row slices are unequal, or the rows too few or too many.
-pub fn rows_refused(identifiers: &[u32], parents: &[u32], shares: &[u32]) -> Refusal
-    ensures { λ r. ⌜ r ≡ rows-refused (table-of (now (identifiers .entry)) (now (parents .entry)) (now (shares .entry))) ⌝ }
+pub fn rows_refused(identifiers: &[u32], parent_identifiers: &[u32], shares: &[u32]) -> Refusal
+    ensures { λ r. ⌜ r ≡ rows-refused (table-of (now (identifiers .entry)) (now («parent_identifiers» .entry)) (now (shares .entry))) ⌝ }
 {
     let rows = identifiers.len();
-    if parents.len() != rows {
+    if parent_identifiers.len() != rows {
         return refusal(1, 0, 0);
     }
     if shares.len() != rows {
@@ -128,14 +129,14 @@ pub fn rows_refused(identifiers: &[u32], parents: &[u32], shares: &[u32]) -> Ref
 }
 
 // Row 0: 4 and 6.
-fn root_refused(identifiers: &[u32], parents: &[u32], shares: &[u32]) -> Refusal
-    requires { ⌜ Sized (table-of (now identifiers) (now parents) (now shares)) ⌝ }
-    ensures { λ r. ⌜ r ≡ root-refused (table-of (now (identifiers .entry)) (now (parents .entry)) (now (shares .entry))) ⌝ }
+fn root_refused(identifiers: &[u32], parent_identifiers: &[u32], shares: &[u32]) -> Refusal
+    requires { ⌜ Sized (table-of (now identifiers) (now «parent_identifiers») (now shares)) ⌝ }
+    ensures { λ r. ⌜ r ≡ root-refused (table-of (now (identifiers .entry)) (now («parent_identifiers» .entry)) (now (shares .entry))) ⌝ }
 {
     if identifiers[0] == 0 {
         return refusal(4, 0, 0);
     }
-    if parents[0] != 0 {
+    if parent_identifiers[0] != 0 {
         return refusal(6, 0, 0);
     }
     if shares[0] != 0 {
@@ -177,19 +178,19 @@ fn class_refused(
 // Row r, read after the rows before it, whose depths are known.
 fn read_row(
     identifiers: &[u32],
-    parents: &[u32],
+    parent_identifiers: &[u32],
     shares: &[u32],
     depths: &[u32; 256],
     r: usize,
 ) -> Row
-    requires { ⌜ Sized (table-of (now identifiers) (now parents) (now shares)) × (r < length (now identifiers))
-        × (now depths ≡ read (table-of (now identifiers) (now parents) (now shares)) r .depths) ⌝ }
-    ensures { λ row. ⌜ row ≡ row-read (table-of (now (identifiers .entry)) (now (parents .entry)) (now (shares .entry))) r ⌝ }
+    requires { ⌜ Sized (table-of (now identifiers) (now «parent_identifiers») (now shares)) × (r < length (now identifiers))
+        × (now depths ≡ read (table-of (now identifiers) (now «parent_identifiers») (now shares)) r .depths) ⌝ }
+    ensures { λ row. ⌜ row ≡ row-read (table-of (now (identifiers .entry)) (now («parent_identifiers» .entry)) (now (shares .entry))) r ⌝ }
 {
-    let parent = place_of(parents[r], identifiers, r);
+    let parent = place_of(parent_identifiers[r], identifiers, r);
     if r == 0 {
         return Row {
-            refusal: root_refused(identifiers, parents, shares),
+            refusal: root_refused(identifiers, parent_identifiers, shares),
             parent: parent as u32,
             depth: 0,
         };
@@ -205,26 +206,26 @@ fn read_row(
 }
 
 // All rows, one after the other.
-fn read_rows(identifiers: &[u32], parents: &[u32], shares: &[u32]) -> Rows
-    requires { ⌜ Sized (table-of (now identifiers) (now parents) (now shares)) ⌝ }
-    ensures { λ rows. ⌜ rows ≡ rows-read (table-of (now (identifiers .entry)) (now (parents .entry)) (now (shares .entry))) (length (now (identifiers .entry))) ⌝ }
+fn read_rows(identifiers: &[u32], parent_identifiers: &[u32], shares: &[u32]) -> Rows
+    requires { ⌜ Sized (table-of (now identifiers) (now «parent_identifiers») (now shares)) ⌝ }
+    ensures { λ rows. ⌜ rows ≡ rows-read (table-of (now (identifiers .entry)) (now («parent_identifiers» .entry)) (now (shares .entry))) (length (now (identifiers .entry))) ⌝ }
 {
     let mut refusal = none();
-    let mut rows_above = [0u32; 256];
+    let mut parents = [0u32; 256];
     let mut depths = [0u32; 256];
     let mut parts = [0u32; 256];
     let mut r = 0;
     while r < identifiers.len() {
-        let row = read_row(identifiers, parents, shares, &depths, r);
+        let row = read_row(identifiers, parent_identifiers, shares, &depths, r);
         refusal = or_else(refusal, row.refusal);
-        rows_above[r] = row.parent;
+        parents[r] = row.parent;
         depths[r] = row.depth;
         parts[r] = shares[r];
         r += 1;
     }
     Rows {
         refusal,
-        parents: rows_above,
+        parents,
         depths,
         shares: parts,
     }
@@ -345,25 +346,25 @@ pub fn refusing(refusal: Refusal) -> Reading
 }
 
 // A table whose slices have one length that is not refused.
-pub fn read_sized(identifiers: &[u32], parents: &[u32], shares: &[u32]) -> Reading
-    requires { ⌜ Sized (table-of (now identifiers) (now parents) (now shares)) ⌝ }
-    ensures { λ r. ⌜ r ≡ answer (table-refused (table-of (now (identifiers .entry)) (now (parents .entry)) (now (shares .entry))))
-        (tree-of (table-of (now (identifiers .entry)) (now (parents .entry)) (now (shares .entry)))) ⌝ }
+pub fn read_sized(identifiers: &[u32], parent_identifiers: &[u32], shares: &[u32]) -> Reading
+    requires { ⌜ Sized (table-of (now identifiers) (now «parent_identifiers») (now shares)) ⌝ }
+    ensures { λ r. ⌜ r ≡ answer (table-refused (table-of (now (identifiers .entry)) (now («parent_identifiers» .entry)) (now (shares .entry))))
+        (tree-of (table-of (now (identifiers .entry)) (now («parent_identifiers» .entry)) (now (shares .entry)))) ⌝ }
 {
-    let rows = read_rows(identifiers, parents, shares);
+    let rows = read_rows(identifiers, parent_identifiers, shares);
     let rows_refusal = rows.refusal;
-    let rows_above = rows.parents;
+    let parents = rows.parents;
     let depths = rows.depths;
     let parts = rows.shares;
-    let shares_refusal = shares_refused(&rows_above, &parts, identifiers.len());
+    let shares_refusal = shares_refused(&parents, &parts, identifiers.len());
     let refusal = or_else(rows_refusal, shares_refusal);
     if refusal.number != 0 {
         return refusing(refusal);
     }
-    let senders = senders_of(&rows_above, identifiers.len());
+    let senders = senders_of(&parents, identifiers.len());
     Reading {
         refusal,
-        parents: rows_above,
+        parents,
         depths,
         shares: parts,
         senders,
@@ -371,12 +372,12 @@ pub fn read_sized(identifiers: &[u32], parents: &[u32], shares: &[u32]) -> Readi
 }
 
 // The check of a class table by itself.
-pub fn read_table(identifiers: &[u32], parents: &[u32], shares: &[u32]) -> Reading
-    ensures { λ r. ⌜ r ≡ reading (table-of (now (identifiers .entry)) (now (parents .entry)) (now (shares .entry))) ⌝ }
+pub fn read_table(identifiers: &[u32], parent_identifiers: &[u32], shares: &[u32]) -> Reading
+    ensures { λ r. ⌜ r ≡ reading (table-of (now (identifiers .entry)) (now («parent_identifiers» .entry)) (now (shares .entry))) ⌝ }
 {
-    let refusal = rows_refused(identifiers, parents, shares);
+    let refusal = rows_refused(identifiers, parent_identifiers, shares);
     if refusal.number != 0 {
         return refusing(refusal);
     }
-    read_sized(identifiers, parents, shares)
+    read_sized(identifiers, parent_identifiers, shares)
 }

@@ -4,12 +4,11 @@ use mathlib.Core.Path.{_≡_, sym, _∙_, ap, subst}
 use mathlib.Core.Bool.{Bool}
 use mathlib.Core.List.{List}
 use borrow.Author.Needs.{needs}
-use Rattle.rules.specs.Classes.{Table, tree-of}
-use Rattle.rules.specs.Events.{Events, count}
-use Rattle.rules.specs.Refusals.{Room, first-below, table-refused}
+use Rattle.input.specs.Classes.{Table, tree-of}
+use Rattle.input.specs.Events.{Events, count}
+use Rattle.input.specs.Refusals.{Room, first-below, table-refused}
 use Rattle.tables.specs.declared.Reading.{Reading}
-use Rattle.tables.specs.Lent.{table-of}
-use Rattle.checks.specs.Lent.{events-of, room-of}
+use Rattle.input.specs.Lent.{table-of, events-of, room-with}
 use Rattle.checks.specs.Counted.{lengths-refused, counted-refused, checked, Known}
 use Rattle.tables.proofs.Answering.{answer-refuses}
 use Rattle.checks.proofs.Rooted.{known}
@@ -21,13 +20,13 @@ abbrev start : tie.After-check-lengths → tie.Start
 start l = l .before .before .before .before .before .before
 
 abbrev table : tie.After-check-lengths → Table
-table l = table-of (start l .args .identifiers .now) (start l .args .parents .now) (start l .args .shares .now)
+table l = table-of (start l .args .identifiers .now) (start l .args .parent-identifiers .now) (start l .args .shares .now)
 
 abbrev events : tie.After-check-lengths → Events
 events l = events-of (start l .args .classes .now) (start l .args .lengths .now)
 
 abbrev room : tie.After-check-lengths → Room
-room l = room-of (start l .args .order) (start l .args .report) (start l .args .lags) (start l .args .working)
+room l = room-with (start l .args .order) (start l .args .report) (start l .args .lags) (start l .args .working)
 
 -- ── what is known after each part ──
 

@@ -3,7 +3,7 @@
 use mathlib.Core.Path.{sym, _∙_, ap₂}
 use native.Mathlib.Omega.{arith}
 use borrow.Author.Needs.{needs}
-use Rattle.rules.specs.Refusals.{or-else, first, room-refused}
+use Rattle.input.specs.Refusals.{or-else, first, room-refused}
 use Rattle.checks.specs.Counted.{room-refusal, lengths-refused}
 use Rattle.tables.proofs.Firsts.{given-last}
 use Rattle.checks.proofs.check_lengths.Statement.{statement}

@@ -1,7 +1,7 @@
 -- `checks::decode` meets its contract: class 0 is a finish, any other an arrival.
 -- Assumes nothing.
 use borrow.Author.Tests.{eq-eqb, ne-eqb}
-use Rattle.rules.specs.Events.{decode}
+use Rattle.input.specs.Events.{decode}
 use Rattle.checks.proofs.decode.Statement.{statement}
 use Rattle.checks.proofs.decode.Tie as tie
 

@@ -1,7 +1,7 @@
 -- `checks::events_refused` meets its contract: each answer by the tests on its way.
 -- Assumes nothing.
 use borrow.Author.Needs.{needs}
-use Rattle.rules.specs.Refusals.{events-refused, given, nothing}
+use Rattle.input.specs.Refusals.{events-refused, given, nothing}
 use Rattle.tables.proofs.Tests.{tests}
 use Rattle.checks.proofs.events_refused.Statement.{statement}
 use Rattle.checks.proofs.events_refused.Tie as tie

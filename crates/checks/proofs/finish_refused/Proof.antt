@@ -3,7 +3,7 @@
 use mathlib.Core.Path.{sym, _∙_, ap₂}
 use native.Mathlib.Omega.{arith}
 use borrow.Author.Needs.{needs}
-use Rattle.rules.specs.Refusals.{or-else, first, meeting-refused}
+use Rattle.input.specs.Refusals.{or-else, first, meeting-refused}
 use Rattle.tables.proofs.Firsts.{given-last}
 use Rattle.checks.proofs.finish_refused.Statement.{statement}
 use Rattle.checks.proofs.finish_refused.Tie as tie

@@ -7,11 +7,11 @@ use native.Mathlib.Omega.{arith}
 use lib.Dec.{leb}
 use lib.ListN.{length}
 use borrow.Author.Needs.{needs}
-use Rattle.rules.specs.declared.Event.{Event}
-use Rattle.rules.specs.Classes.{Tree}
-use Rattle.rules.specs.Events.{Events, length-word, event}
-use Rattle.checks.specs.Lent.{events-of}
-use Rattle.rules.specs.Refusals.{meeting-refused}
+use Rattle.input.specs.declared.Event.{Event}
+use Rattle.input.specs.Classes.{Tree}
+use Rattle.input.specs.Events.{Events, length-word, event}
+use Rattle.input.specs.Lent.{events-of}
+use Rattle.input.specs.Refusals.{meeting-refused}
 use Rattle.checks.specs.Counted.{Known}
 use Rattle.checks.proofs.Meeting.{counted-plain, Passed, passed-none, passed-stop, passed-more}
 use Rattle.checks.proofs.list_refused.Statement.{statement}

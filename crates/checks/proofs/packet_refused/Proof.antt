@@ -1,7 +1,7 @@
 -- `checks::packet_refused` meets its contract: each answer by the tests on its way.
 -- Assumes nothing.
 use borrow.Author.Needs.{needs}
-use Rattle.rules.specs.Refusals.{first, or-else, given, nothing}
+use Rattle.input.specs.Refusals.{first, or-else, given, nothing}
 use Rattle.checks.specs.Counted.{packet-refusal}
 use Rattle.tables.proofs.Tests.{tests}
 use Rattle.checks.proofs.packet_refused.Statement.{statement}

@@ -1,7 +1,7 @@
 -- `checks::room_refused` meets its contract: each answer by the tests on its way.
 -- Assumes nothing.
 use borrow.Author.Needs.{needs}
-use Rattle.rules.specs.Refusals.{given, nothing}
+use Rattle.input.specs.Refusals.{given, nothing}
 use Rattle.checks.specs.Counted.{room-refusal}
 use Rattle.tables.proofs.Tests.{tests}
 use Rattle.checks.proofs.room_refused.Statement.{statement}

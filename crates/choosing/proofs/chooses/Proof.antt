@@ -4,7 +4,7 @@ use Prim.Native.Nat.{_+_, _<_, _^_}
 use native.Mathlib.Omega.{arith}
 use borrow.Author.Tests.{eq-eqb, ne-eqb}
 use borrow.Author.Needs.{needs}
-use Rattle.rules.specs.Limits.{most-rows}
+use Rattle.input.specs.Limits.{most-rows}
 use Rattle.rules.specs.Steps.{chooses, with-head}
 use Rattle.choosing.specs.Sizes.{most-choice}
 use Rattle.choosing.proofs.Ticks.{raised-fits}

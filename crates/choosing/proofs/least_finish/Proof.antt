@@ -4,7 +4,7 @@ use Prim.Native.Nat.{ℕ, _≤_, _-_}
 use mathlib.Core.Path.{_≡_, refl, _∙_}
 use native.Mathlib.Omega.{arith}
 use lib.ListN.{getD}
-use Rattle.rules.specs.Limits.{most-rows}
+use Rattle.input.specs.Limits.{most-rows}
 use Rattle.rules.specs.Steps.{least}
 use Rattle.choosing.specs.Arrays.{ready}
 use Rattle.choosing.proofs.Scan.{least-more, least-below}

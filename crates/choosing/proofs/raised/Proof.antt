@@ -4,10 +4,10 @@ use Prim.Native.Nat.{_<_}
 use native.Mathlib.Omega.{arith}
 use borrow.Author.Tests.{ne-eqb}
 use borrow.Author.Needs.{needs}
-use Rattle.rules.specs.Limits.{most-rows}
+use Rattle.input.specs.Limits.{most-rows}
 use Rattle.rules.specs.Steps.{waits, raised}
 use Rattle.rules.specs.Box.{has-head}
-use Rattle.rules.specs.Classes.{child}
+use Rattle.input.specs.Classes.{child}
 use Rattle.choosing.proofs.Scan.{least-below}
 use Rattle.choosing.proofs.raised.Statement.{statement}
 use Rattle.choosing.proofs.raised.Tie as tie

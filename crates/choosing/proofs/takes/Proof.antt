@@ -32,17 +32,17 @@ element-copy-out-class c = search needs
 cast-virtuals : tie.Need-cast-virtuals
 cast-virtuals c =
     let start = c .before .before .before in
-    omega (arith, start .pre .1 .1 .1 .1 .lengths (start .args .k))
+    omega (arith, start .pre .1 .1 .1 .1 .head-lengths (start .args .k))
 
 mul-virtuals : tie.Need-mul-virtuals
 mul-virtuals c =
     let start = c .before .before .before in
-    omega (arith, start .pre .1 .1 .1 .1 .lengths (start .args .k))
+    omega (arith, start .pre .1 .1 .1 .1 .head-lengths (start .args .k))
 
 add-virtuals : tie.Need-add-virtuals
 add-virtuals c =
     let start = c .before .before .before in
-    omega (arith, start .pre .1 .1 .0, start .pre .1 .1 .1 .1 .lengths (start .args .k))
+    omega (arith, start .pre .1 .1 .0, start .pre .1 .1 .1 .1 .head-lengths (start .args .k))
 
 mul-virtuals-2 : tie.Need-mul-virtuals-2
 mul-virtuals-2 c = search needs
@@ -58,7 +58,7 @@ unfolding with-virtual
 new-head-requires c κs =
     let start = c .before .before .before .before .before .before .before .before .before .before in
     let known = start .pre in
-    let short = known .1 .1 .1 .1 .lengths (start .args .k) in
+    let short = known .1 .1 .1 .1 .head-lengths (start .args .k) in
     let room = passed-room most-charge (start .args .v) _ (known .1 .1 .0) (known .1 .1 .1 .1) (start .args .p) _ short in
     (known .0, (known .1 .1 .1 .0, (short, room)))
 

@@ -4,7 +4,7 @@
 use mathlib.Core.Bool.{and-false, and-true}
 use borrow.Author.Tests.{eq-eqb, ne-eqb}
 use borrow.Author.Needs.{needs}
-use Rattle.rules.specs.Classes.{child}
+use Rattle.input.specs.Classes.{child}
 use Rattle.rules.specs.Box.{has-head}
 use Rattle.rules.specs.Steps.{waits}
 use Rattle.choosing.proofs.waits.Statement.{statement}

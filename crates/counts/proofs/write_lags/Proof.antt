@@ -9,7 +9,7 @@ use borrow.Author.Needs.{needs}
 use lib.ListN.{length, length-set}
 use mir.Syntax.{w64}
 use mir.ValLaws.{toZ-ofZ}
-use Rattle.rules.specs.Classes.{Tree}
+use Rattle.input.specs.Classes.{Tree}
 use Rattle.rules.specs.Box.{Box}
 use Rattle.rules.specs.Outcome.{lag, lags-of, over}
 use Rattle.rules.proofs.Results.{lags-length}

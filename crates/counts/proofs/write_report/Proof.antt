@@ -6,7 +6,7 @@ use native.Mathlib.Numerals.{add-one}
 use native.Mathlib.Omega.{arith}
 use borrow.Author.Needs.{needs}
 use lib.ListN.{length}
-use Rattle.rules.specs.Classes.{Tree}
+use Rattle.input.specs.Classes.{Tree}
 use Rattle.rules.specs.Box.{Box}
 use Rattle.rules.specs.Outcome.{row-report, report-of, over}
 use Rattle.rules.proofs.Results.{report-length}

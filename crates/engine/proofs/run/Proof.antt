@@ -18,7 +18,7 @@ module _ (k : tie.After-check) where
 
   abbrev lent : Lent
   lent =
-      lent-of (start .args .identifiers .now) (start .args .parents .now) (start .args .shares .now) (start .args .classes .now) (start .args .lengths .now)
+      lent-of (start .args .identifiers .now) (start .args .parent-identifiers .now) (start .args .shares .now) (start .args .classes .now) (start .args .lengths .now)
       (start .args .order .now) (start .args .report .now) (start .args .lags .now) (start .args .working .now)
 
   reading-is : k .check .result ≡ checked (lent .table) (lent .events) (room-of lent)

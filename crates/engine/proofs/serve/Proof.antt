@@ -5,14 +5,14 @@ use mathlib.Core.Path.{_≡_, refl, sym, _∙_}
 use native.Mathlib.Numerals.{add-one}
 use native.Mathlib.Omega.{arith}
 use lib.ListN.{length, drop}
-use Rattle.rules.specs.Classes.{Tree, sends}
-use Rattle.rules.specs.Events.{Events, count}
+use Rattle.input.specs.Classes.{Tree, sends}
+use Rattle.input.specs.Events.{Events, count}
 use Rattle.rules.specs.Box.{Rows, Box}
 use Rattle.rules.specs.Steps.{after}
 use Rattle.rules.specs.Outcome.{over}
 use Rattle.choosing.specs.Arrays.{rows-of}
-use Rattle.checks.specs.Lent.{events-of}
-use Rattle.events.specs.State.{tree-at, Fit, Now}
+use Rattle.input.specs.Lent.{events-of, tree-at}
+use Rattle.events.specs.State.{Fit, Now}
 use Rattle.events.proofs.Fits.{past-now, bytes-now}
 use Rattle.engine.proofs.Opening.{cleared-rest, fresh-now, fresh-order, shown}
 use Rattle.engine.proofs.serve.Statement.{statement}

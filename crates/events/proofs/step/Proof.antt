@@ -5,15 +5,15 @@ use mathlib.Core.Path.{_≡_, refl, sym, _∙_}
 use native.Mathlib.Omega.{arith}
 use borrow.Author.Needs.{needs}
 use lib.ListN.{length, getD}
-use Rattle.rules.specs.declared.Event.the-variants.{Arrival, Finish}
-use Rattle.rules.specs.Limits.{most-rows}
-use Rattle.rules.specs.Classes.{Tree, row-of}
-use Rattle.rules.specs.Events.{Events, event}
+use Rattle.input.specs.declared.Event.the-variants.{Arrival, Finish}
+use Rattle.input.specs.Limits.{most-rows}
+use Rattle.input.specs.Classes.{Tree, row-of}
+use Rattle.input.specs.Events.{Events, event}
 use Rattle.rules.specs.Box.{Rows}
 use Rattle.rules.specs.Steps.{after}
 use Rattle.choosing.specs.Arrays.{rows-of}
-use Rattle.checks.specs.Lent.{events-of}
-use Rattle.events.specs.State.{tree-at, Fit, Now}
+use Rattle.input.specs.Lent.{events-of, tree-at}
+use Rattle.events.specs.State.{Fit, Now}
 use Rattle.events.proofs.Fits.{ready-now}
 use Rattle.events.proofs.Stepping.{room, few-sent, fits, arrival-sender, last-known, arrived-now, arrived-beyond, arrived-order}
 use Rattle.events.proofs.Stepping.{class-few, head-some, head-before, next-before, next-length, next-packet, finished-now, finished-order}

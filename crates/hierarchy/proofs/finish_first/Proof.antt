@@ -5,7 +5,7 @@ use mathlib.Core.Path.{_≡_}
 use native.Mathlib.Omega.{arith}
 use borrow.Author.Needs.{needs}
 use Rattle.rules.specs.Steps.{leaves}
-use Rattle.rules.specs.Limits.{most-rows}
+use Rattle.input.specs.Limits.{most-rows}
 use Rattle.hierarchy.proofs.Climb.{Remains, remains-all, remains-less, remains-last}
 use Rattle.hierarchy.proofs.finish_first.Statement.{statement}
 use Rattle.hierarchy.proofs.finish_first.Tie as tie

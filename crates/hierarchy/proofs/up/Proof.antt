@@ -5,8 +5,8 @@ use Prim.Native.Nat.{_<_, _*_}
 use mathlib.Core.List.{[]}
 use mathlib.Core.Path.{sym, _∙_}
 use native.Mathlib.Omega.{arith}
-use Rattle.rules.specs.Limits.{most-rows}
-use Rattle.choosing.specs.Sizes.{Room, most-choice}
+use Rattle.input.specs.Limits.{most-rows}
+use Rattle.choosing.specs.Sizes.{Leeway, most-choice}
 use Rattle.choosing.specs.Arrays.{rows-of}
 use Rattle.choosing.proofs.Ticks.{less-room}
 use Rattle.hierarchy.specs.Sizes.{most-climb}
@@ -18,7 +18,7 @@ use Rattle.hierarchy.proofs.up.Tie as tie
 abbrev Inv-loop : tie.InvT-loop
 Inv-loop rows parents shares starts₀ finishes₀ virtuals₀ heads₀ lengths₀ classes₀ why row depth d₀ r₀ starts finishes virtuals heads lengths classes d r =
     (r < most-rows)
-    × Room (d * most-choice) (rows-of starts finishes virtuals heads lengths classes)
+    × Leeway (d * most-choice) (rows-of starts finishes virtuals heads lengths classes)
     × Rising rows parents shares why row depth (rows-of starts₀ finishes₀ virtuals₀ heads₀ lengths₀ classes₀) d r
     (rows-of starts finishes virtuals heads lengths classes)
 

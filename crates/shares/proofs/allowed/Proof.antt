@@ -7,7 +7,7 @@ use native.Mathlib.Decide.{ℕ-discrete}
 use native.Mathlib.Omega.{arith}
 use lib.ListN.{getD}
 use borrow.Author.Needs.{needs}
-use Rattle.rules.specs.Shares.{share-table}
+use Rattle.input.specs.Shares.{share-table}
 use Rattle.shares.proofs.Entries.{entry-allowed, no-entry-refused}
 use Rattle.shares.proofs.allowed.Statement.{statement}
 use Rattle.shares.proofs.allowed.Tie as tie

@@ -4,7 +4,7 @@ use Prim.Native.Nat.{_≤_}
 use native.Mathlib.Nat.{mul-le-mul-left}
 use native.Mathlib.Omega.{arith}
 use borrow.Author.Needs.{needs}
-use Rattle.rules.specs.Shares.{charge}
+use Rattle.input.specs.Shares.{charge}
 use Rattle.shares.proofs.charge.Statement.{statement}
 use Rattle.shares.proofs.charge.Tie as tie
 

@@ -1,7 +1,7 @@
 -- `shares::cost` meets its contract: a share of 0 divides to 0.
 -- Assumes nothing.
 use borrow.Author.Needs.{needs}
-use Rattle.rules.specs.Shares.{cost}
+use Rattle.input.specs.Shares.{cost}
 use Rattle.shares.proofs.cost.Statement.{statement}
 use Rattle.shares.proofs.cost.Tie as tie
 

@@ -5,7 +5,7 @@ use mathlib.Core.Path.{_≡_, sym, _∙_}
 use native.Mathlib.Omega.{arith}
 use borrow.Author.Needs.{needs}
 use borrow.Author.Tests.{not-true, not-false}
-use Rattle.rules.specs.Limits.{whole}
+use Rattle.input.specs.Limits.{whole}
 use Rattle.sheet.specs.Paper.{over, limit, outgrown, raised, stepped}
 use Rattle.sheet.proofs.Tests.{passed, failed}
 use Rattle.sheet.proofs.Figures.{denominator-some, stays-outgrown, over-nothing, steps-up, too-many}

@@ -2,7 +2,7 @@
 -- Assumes nothing.
 use native.Mathlib.Omega.{arith}
 use borrow.Author.Tests.{lt-ltb}
-use Rattle.rules.specs.Classes.{child}
+use Rattle.input.specs.Classes.{child}
 use borrow.Author.Needs.{needs}
 use Rattle.tables.proofs.child.Statement.{statement}
 use Rattle.tables.proofs.child.Tie as tie

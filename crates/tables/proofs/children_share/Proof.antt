@@ -5,7 +5,7 @@ use mathlib.Core.Path.{_≡_, refl, ap₂}
 use native.Mathlib.Numerals.{add-one}
 use native.Mathlib.Omega.{arith}
 use borrow.Author.Needs.{needs}
-use Rattle.rules.specs.Classes.{Tree, children-share}
+use Rattle.input.specs.Classes.{Tree, children-share}
 use Rattle.tables.proofs.children_share.Statement.{statement}
 use Rattle.tables.proofs.children_share.Tie as tie
 

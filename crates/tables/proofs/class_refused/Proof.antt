@@ -3,8 +3,8 @@
 use mathlib.Core.Path.{_≡_}
 use mathlib.Core.Bool.{true, false, not}
 use borrow.Author.Needs.{needs}
-use Rattle.rules.specs.Shares.{allowed}
-use Rattle.rules.specs.Refusals.{first, or-else, given, nothing}
+use Rattle.input.specs.Shares.{allowed}
+use Rattle.input.specs.Refusals.{first, or-else, given, nothing}
 use Rattle.tables.specs.Answers.{class-refusal}
 use Rattle.tables.proofs.Tests.{tests}
 use Rattle.tables.proofs.class_refused.Statement.{statement}

@@ -1,7 +1,7 @@
 -- `tables::given` meets its contract: either answer is the definition's.
 -- Assumes nothing.
 use borrow.Author.Needs.{needs}
-use Rattle.rules.specs.Refusals.{given}
+use Rattle.input.specs.Refusals.{given}
 use Rattle.tables.proofs.given.Statement.{statement}
 use Rattle.tables.proofs.given.Tie as tie
 

@@ -6,8 +6,8 @@ use mathlib.Core.Bool.{false}
 use native.Mathlib.Numerals.{add-one}
 use native.Mathlib.Omega.{arith}
 use borrow.Author.Needs.{needs}
-use Rattle.rules.specs.Classes.{Tree, has-child}
-use Rattle.laws.proofs.Paths.{has-kid}
+use Rattle.input.specs.Classes.{Tree, has-child}
+use Rattle.laws.proofs.tree.Paths.{has-kid}
 use Rattle.tables.proofs.has_child.Statement.{statement}
 use Rattle.tables.proofs.has_child.Tie as tie
 

@@ -1,7 +1,7 @@
 -- `tables::none` meets its contract: it is the refusal with number 0.
 -- Assumes nothing.
 use mathlib.Core.Path.{refl}
-use Rattle.rules.specs.Refusals.{nothing}
+use Rattle.input.specs.Refusals.{nothing}
 use Rattle.tables.proofs.none.Statement.{statement}
 use Rattle.tables.proofs.none.Tie as tie
 

@@ -1,7 +1,7 @@
 -- `tables::or_else` meets its contract: the first number decides.
 -- Assumes nothing.
 use borrow.Author.Tests.{eq-eqb, ne-eqb}
-use Rattle.rules.specs.Refusals.{or-else}
+use Rattle.input.specs.Refusals.{or-else}
 use Rattle.tables.proofs.or_else.Statement.{statement}
 use Rattle.tables.proofs.or_else.Tie as tie
 

@@ -3,14 +3,14 @@
 use Prim.Native.Nat.{_≤_}
 use native.Mathlib.Omega.{arith}
 use borrow.Author.Needs.{needs}
-use Rattle.rules.specs.Classes.{Table, earlier, parent-of}
-use Rattle.tables.specs.Lent.{table-of}
+use Rattle.input.specs.Classes.{Table, earlier, parent-of}
+use Rattle.input.specs.Lent.{table-of}
 use Rattle.tables.proofs.OneRow.{depth-small, root-row, class-row}
 use Rattle.tables.proofs.read_row.Statement.{statement}
 use Rattle.tables.proofs.read_row.Tie as tie
 
 abbrev table : tie.Start → Table
-table s = table-of (s .args .identifiers .now) (s .args .parents .now) (s .args .shares .now)
+table s = table-of (s .args .identifiers .now) (s .args .parent-identifiers .now) (s .args .shares .now)
 
 mul-place-of : tie.Need-mul-place-of
 mul-place-of c = search needs

@@ -6,21 +6,21 @@ use native.Mathlib.Numerals.{add-one}
 use native.Mathlib.Omega.{arith}
 use borrow.Author.Needs.{needs}
 use lib.ListN.{length}
-use Rattle.rules.specs.Classes.{zeros, read}
-use Rattle.rules.specs.Refusals.{first-below}
+use Rattle.input.specs.Classes.{zeros, read}
+use Rattle.input.specs.Refusals.{first-below}
 use Rattle.tables.specs.declared.Rows.{Rows}
-use Rattle.tables.specs.Lent.{table-of}
+use Rattle.input.specs.Lent.{table-of}
 use Rattle.tables.specs.Answers.{rows-read}
 use Rattle.tables.proofs.OneRow.{rows-of, rows-more}
 use Rattle.tables.proofs.read_rows.Statement.{statement}
 use Rattle.tables.proofs.read_rows.Tie as tie
 
 abbrev Inv-loop : tie.InvT-loop
-Inv-loop identifiers parents shares refusal₀ rows-above₀ depths₀ parts₀ r₀ refusal rows-above depths parts r =
-    (r ≤ length identifiers) × (rows-of refusal rows-above depths parts ≡ rows-read (table-of identifiers parents shares) r)
+Inv-loop identifiers parent-identifiers shares refusal₀ parents₀ depths₀ parts₀ r₀ refusal parents depths parts r =
+    (r ≤ length identifiers) × (rows-of refusal parents depths parts ≡ rows-read (table-of identifiers parent-identifiers shares) r)
 
 abbrev μ-loop : tie.MeasureT-loop
-μ-loop identifiers parents shares refusal₀ rows-above₀ depths₀ parts₀ r₀ refusal rows-above depths parts r = length identifiers - r
+μ-loop identifiers parent-identifiers shares refusal₀ parents₀ depths₀ parts₀ r₀ refusal parents depths parts r = length identifiers - r
 
 none-requires : tie.Need-none-requires Inv-loop μ-loop
 none-requires c κs = search needs
@@ -41,11 +41,11 @@ read-row-requires c κs = (
 or-else-requires : tie.Need-or-else-requires Inv-loop μ-loop
 or-else-requires c κs = search needs
 
-mul-rows-above : tie.Need-mul-rows-above Inv-loop μ-loop
-mul-rows-above c = search needs
+mul-parents : tie.Need-mul-parents Inv-loop μ-loop
+mul-parents c = search needs
 
-array-write-rows-above : tie.Need-array-write-rows-above Inv-loop μ-loop
-array-write-rows-above c = search needs
+array-write-parents : tie.Need-array-write-parents Inv-loop μ-loop
+array-write-parents c = search needs
 
 mul-depths : tie.Need-mul-depths Inv-loop μ-loop
 mul-depths c = search needs
@@ -77,8 +77,8 @@ loop-again c =
     let at = c .before .before .before .before .before .loop in (
       omega arith,
       rw (add-one, c .before .or-else .ensures)
-          (rows-more (table-of (s .args .identifiers .now) (s .args .parents .now) (s .args .shares .now)) (s .pre) (at .r) (omega arith)
-          (rows-of (at .refusal) (at .rows-above) (at .depths) (at .parts)) (c .before .before .read-row .result) (at .inv .1)
+          (rows-more (table-of (s .args .identifiers .now) (s .args .parent-identifiers .now) (s .args .shares .now)) (s .pre) (at .r) (omega arith)
+          (rows-of (at .refusal) (at .parents) (at .depths) (at .parts)) (c .before .before .read-row .result) (at .inv .1)
           (c .before .before .read-row .ensures)),
     )
 
@@ -90,5 +90,5 @@ returns c =
 pub read-rows-spec : {M : Type 1} → statement M
 read-rows-spec =
     tie.close
-    (tie.spec Inv-loop μ-loop none-requires loop-holds read-row-requires or-else-requires mul-rows-above array-write-rows-above
+    (tie.spec Inv-loop μ-loop none-requires loop-holds read-row-requires or-else-requires mul-parents array-write-parents
     mul-depths array-write-depths mul-parts shared-slice-read-parts mul-parts-2 array-write-parts add-r loop-less loop-again returns)

@@ -2,15 +2,15 @@
 -- Assumes nothing.
 use mathlib.Core.Path.{_≡_, refl, sym, _∙_}
 use borrow.Author.Needs.{needs}
-use Rattle.rules.specs.Classes.{Table, tree-of}
-use Rattle.rules.specs.Refusals.{table-refused}
-use Rattle.tables.specs.Lent.{table-of}
+use Rattle.input.specs.Classes.{Table, tree-of}
+use Rattle.input.specs.Refusals.{table-refused}
+use Rattle.input.specs.Lent.{table-of}
 use Rattle.tables.proofs.Answering.{answer-refuses, answer-accepts, parents-read, shares-read, table-refusal, tree-rows, accepted}
 use Rattle.tables.proofs.read_sized.Statement.{statement}
 use Rattle.tables.proofs.read_sized.Tie as tie
 
 abbrev table : tie.Start → Table
-table s = table-of (s .args .identifiers .now) (s .args .parents .now) (s .args .shares .now)
+table s = table-of (s .args .identifiers .now) (s .args .parent-identifiers .now) (s .args .shares .now)
 
 abbrev start : tie.After-or-else → tie.Start
 start o = o .before .before .before .before .before .before .before .before .before .before .before .before

@@ -1,9 +1,9 @@
 -- `tables::read_table` meets its contract: 1 is looked for first, and without it the slices are of one length.
 -- Assumes nothing.
 use borrow.Author.Needs.{needs}
-use Rattle.rules.specs.Classes.{Table, tree-of}
-use Rattle.rules.specs.Refusals.{table-refused}
-use Rattle.tables.specs.Lent.{table-of}
+use Rattle.input.specs.Classes.{Table, tree-of}
+use Rattle.input.specs.Refusals.{table-refused}
+use Rattle.input.specs.Lent.{table-of}
 use Rattle.tables.specs.Answers.{reading}
 use Rattle.tables.proofs.Firsts.{or-else-first, or-else-second}
 use Rattle.tables.proofs.Answering.{answer-refuses, sized}
@@ -11,7 +11,7 @@ use Rattle.tables.proofs.read_table.Statement.{statement}
 use Rattle.tables.proofs.read_table.Tie as tie
 
 abbrev table : tie.Start → Table
-table s = table-of (s .args .identifiers .now) (s .args .parents .now) (s .args .shares .now)
+table s = table-of (s .args .identifiers .now) (s .args .parent-identifiers .now) (s .args .shares .now)
 
 rows-refused-requires : tie.Need-rows-refused-requires
 rows-refused-requires c κs = search needs

@@ -1,7 +1,7 @@
 -- `tables::refusing` meets its contract: all of it is zero but the refusal.
 -- Assumes nothing.
 use mathlib.Core.Path.{refl}
-use Rattle.rules.specs.Classes.{zeros}
+use Rattle.input.specs.Classes.{zeros}
 use Rattle.tables.specs.Answers.{refusing}
 use Rattle.tables.proofs.refusing.Statement.{statement}
 use Rattle.tables.proofs.refusing.Tie as tie

@@ -2,7 +2,7 @@
 -- Assumes nothing.
 use borrow.Author.Needs.{needs}
 use Rattle.tables.proofs.Tests.{tests}
-use Rattle.rules.specs.Refusals.{root-refused, first, or-else, given, nothing}
+use Rattle.input.specs.Refusals.{root-refused, first, or-else, given, nothing}
 use Rattle.tables.proofs.root_refused.Statement.{statement}
 use Rattle.tables.proofs.root_refused.Tie as tie
 

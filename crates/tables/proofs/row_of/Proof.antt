@@ -3,7 +3,7 @@
 use mathlib.Core.Path.{_∙_, ap}
 use lib.Seq.{take-length}
 use borrow.Author.Needs.{needs}
-use Rattle.rules.specs.Classes.{place-of}
+use Rattle.input.specs.Classes.{place-of}
 use Rattle.tables.proofs.row_of.Statement.{statement}
 use Rattle.tables.proofs.row_of.Tie as tie
 

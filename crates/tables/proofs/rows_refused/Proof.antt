@@ -2,7 +2,7 @@
 -- Assumes nothing.
 use borrow.Author.Needs.{needs}
 use Rattle.tables.proofs.Tests.{tests}
-use Rattle.rules.specs.Refusals.{rows-refused, given, nothing}
+use Rattle.input.specs.Refusals.{rows-refused, given, nothing}
 use Rattle.tables.proofs.rows_refused.Statement.{statement}
 use Rattle.tables.proofs.rows_refused.Tie as tie
 

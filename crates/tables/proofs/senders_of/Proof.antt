@@ -5,7 +5,7 @@ use mathlib.Core.Path.{_≡_, refl}
 use native.Mathlib.Numerals.{add-one}
 use native.Mathlib.Omega.{arith}
 use borrow.Author.Needs.{needs}
-use Rattle.rules.specs.Classes.{Tree}
+use Rattle.input.specs.Classes.{Tree}
 use Rattle.tables.specs.Answers.{senders-below}
 use Rattle.tables.proofs.senders_of.Statement.{statement}
 use Rattle.tables.proofs.senders_of.Tie as tie

@@ -5,7 +5,7 @@ use mathlib.Core.Path.{sym, ap}
 use mathlib.Core.Bool.{not}
 use native.Mathlib.Omega.{arith}
 use borrow.Author.Tests.{lt-ltb}
-use Rattle.rules.specs.Classes.{has-child, sends}
+use Rattle.input.specs.Classes.{has-child, sends}
 use borrow.Author.Needs.{needs}
 use Rattle.tables.proofs.sends.Statement.{statement}
 use Rattle.tables.proofs.sends.Tie as tie

@@ -7,9 +7,9 @@ use native.Mathlib.Omega.{arith}
 use lib.Dec.{ltb}
 use lib.ListN.{length}
 use borrow.Author.Needs.{needs}
-use Rattle.rules.specs.Limits.{whole}
-use Rattle.rules.specs.Classes.{Table, tree-of, children-share}
-use Rattle.rules.specs.Refusals.{given, or-else, first-below, shares-refused}
+use Rattle.input.specs.Limits.{whole}
+use Rattle.input.specs.Classes.{Table, tree-of, children-share}
+use Rattle.input.specs.Refusals.{given, or-else, first-below, shares-refused}
 use Rattle.tables.proofs.shares_refused.Statement.{statement}
 use Rattle.tables.proofs.shares_refused.Tie as tie
 

@@ -1,0 +1,117 @@
+-- Refusals: their form, and what is refused of the lent lengths, of a class table and of the words of an event, with which number and where.
+use Prim.Native.Nat.{ℕ, zero, suc, _*_}
+use mathlib.Core.Bool.{Bool, cond, not, _||_}
+use mathlib.Core.List.{List, [], _∷_}
+use lib.Dec.{ltb, eqb}
+use lib.ListN.{length, getD}
+use Rattle.input.specs.declared.Event.{Event}
+use Rattle.input.specs.declared.Event.the-variants.{Arrival, Finish}
+use Rattle.input.specs.declared.Refusal.{Refusal}
+use Rattle.input.specs.Limits.{least-rows, most-rows, most-depth, most-events, least-bytes, most-bytes, whole, report-words}
+use Rattle.input.specs.Shares.{allowed}
+use Rattle.input.specs.Classes.{Table, Tree, earlier, parent-of, tree-of, depth, row-of, sends, children-share}
+use Rattle.input.specs.Events.{Events, count}
+
+-- ── the form of a refusal ──
+
+unfoldable pub nothing : Refusal
+nothing = record { number = 0; place = 0; second = 0 }
+
+-- the refusal with this number at this place, if the test holds
+unfoldable pub given : Bool → ℕ → ℕ → Refusal
+given test number place = cond test (record { number = number; place = place; second = 0 }) nothing
+
+-- the first that refuses
+unfoldable pub or-else : Refusal → Refusal → Refusal
+or-else refusal next = cond (eqb (refusal .number) 0) next refusal
+
+unfoldable pub first : List Refusal → Refusal
+first [] = nothing
+first (refusal ∷ later) = or-else refusal (first later)
+
+-- the first that refuses at the places below n
+unfoldable pub first-below : (ℕ → Refusal) → ℕ → Refusal
+first-below at zero = nothing
+first-below at (suc i) = or-else (first-below at i) (at i)
+
+-- ── the lengths of the lent slices ──
+
+-- how many words each lent result slice has
+pub record Room : Type 0 where
+  pub order : ℕ
+  pub report : ℕ
+  pub lags : ℕ
+  pub working : ℕ
+
+-- 1: the row slices are unequal, or the rows too few or too many
+unfoldable pub rows-refused : Table → Refusal
+rows-refused table =
+    let rows = length (table .identifiers) in
+    given (not (eqb (length (table .parent-identifiers)) rows) || not (eqb (length (table .shares)) rows) || ltb rows least-rows || ltb most-rows rows)
+    1 0
+
+-- 2: the event slices are unequal, or there are too many events
+unfoldable pub events-refused : Events → Refusal
+events-refused events = given (not (eqb (length (events .lengths)) (count events)) || ltb most-events (count events)) 2 0
+
+-- 3: a result slice is too short
+unfoldable pub room-refused : Table → Events → Room → Refusal
+room-refused table events room =
+    let rows = length (table .identifiers) in
+    given
+    (ltb (room .order) (count events) || ltb (room .working) (count events)
+    || ltb (room .report) (report-words * rows) || ltb (room .lags) rows)
+    3 0
+
+-- ── the class table ──
+
+-- 5: the identifier of row r stands in an earlier row, which is the second place
+unfoldable pub doubled : Table → ℕ → Refusal
+doubled table r =
+    let other = earlier table r (getD (table .identifiers) r 0) in
+    cond (ltb other r) (record { number = 5; place = r; second = other }) nothing
+
+-- row 0: 4 and 6 alone
+unfoldable pub root-refused : Table → Refusal
+root-refused table =
+    first
+    (given (eqb (getD (table .identifiers) 0 0) 0) 4 0
+    ∷ given (not (eqb (getD (table .parent-identifiers) 0 0) 0) || not (eqb (getD (table .shares) 0 0) 0)) 6 0
+    ∷ [])
+
+-- any other row: 4, 5, 7, 8, 9
+unfoldable pub class-refused : Table → ℕ → Refusal
+class-refused table r =
+    first
+    (given (eqb (getD (table .identifiers) r 0) 0) 4 r
+    ∷ doubled table r
+    ∷ given (eqb (parent-of table r) r) 7 r
+    ∷ given (not (allowed (getD (table .shares) r 0))) 8 r
+    ∷ given (ltb most-depth (depth (tree-of table) r)) 9 r
+    ∷ [])
+
+unfoldable pub row-refused : Table → ℕ → Refusal
+row-refused table zero = root-refused table
+row-refused table (suc r) = class-refused table (suc r)
+
+-- 10: the shares of row p's children are too much together
+unfoldable pub shares-refused : Table → ℕ → Refusal
+shares-refused table p = given (ltb whole (children-share (tree-of table) p (length (table .identifiers)))) 10 p
+
+-- row by row, then the sums of shares at the lowest parent row
+unfoldable pub table-refused : Table → Refusal
+table-refused table =
+    let rows = length (table .identifiers) in
+    or-else (first-below (row-refused table) rows) (first-below (shares-refused table) rows)
+
+-- ── the words of an event ──
+
+-- an event at place i, with its length word, that meets an idle line or a busy one. An arrival: 11, 12, 13; a finish: 13, 14
+unfoldable pub meeting-refused : Tree → ℕ → ℕ → Event → Bool → Refusal
+meeting-refused tree i word (Arrival class length) idles =
+    first
+    (given (eqb (row-of tree class) (tree .rows)) 11 i
+    ∷ given (not (sends tree (row-of tree class))) 12 i
+    ∷ given (ltb length least-bytes || ltb most-bytes length) 13 i
+    ∷ [])
+meeting-refused tree i word Finish idles = first (given (not (eqb word 0)) 13 i ∷ given idles 14 i ∷ [])

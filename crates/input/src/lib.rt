@@ -1,0 +1,51 @@
+// The words that definitions and code share about what is put in: limits and units, the two kinds of event, a refusal, and a run's answer.
+
+// ── limits and units: the numbers of specs/Limits.antt ──
+
+// Rows of a class table, the root's among them.
+pub const LEAST_ROWS: usize = 2;
+
+pub const MOST_ROWS: usize = 256;
+
+// How far below the root a class may stand.
+pub const MOST_DEPTH: u32 = 8;
+
+pub const MOST_EVENTS: usize = 65536;
+
+// Bytes of a packet.
+pub const LEAST_BYTES: u32 = 1;
+
+pub const MOST_BYTES: u32 = 2048;
+
+// The parts that make a whole: the most that a share may be, and that the children of a row may have together.
+pub const WHOLE: u32 = 840;
+
+// Ticks of virtual time to a byte.
+pub const TICKS: u32 = 840;
+
+// Ticks to a byte for a share of one part.
+pub const SCALE: u32 = 705600;
+
+// Words of the report for a row.
+pub const REPORT_WORDS: usize = 5;
+
+// An event: a packet of `length` bytes has arrived for the class with this identifier, or the line has finished its packet.
+pub enum Event {
+    Arrival { class: u32, length: u32 },
+    Finish,
+}
+
+// Why an input is refused, and where. Number 0 refuses nothing.
+pub struct Refusal {
+    pub number: u32,
+    pub place: u32,
+    pub second: u32,
+}
+
+// What a run answers: number 0 where it is done, else the refusal; and how many packets went on the line.
+pub struct Answer {
+    pub number: u32,
+    pub place: u32,
+    pub second: u32,
+    pub count: u32,
+}

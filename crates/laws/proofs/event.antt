@@ -1,0 +1,8 @@
+-- One event after the other: what it keeps of a well-kept box.
+pub mod Turns
+pub mod Largest
+pub mod Queues
+pub mod Holding
+pub mod Outset
+pub mod OneEvent
+pub mod Keeping

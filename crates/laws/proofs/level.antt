@@ -1,0 +1,4 @@
+-- One level by itself: how far its children can be ahead or behind, whatever moves there.
+pub mod Balance
+pub mod Modes
+pub mod Levels

@@ -1,0 +1,10 @@
+-- Choosing at a row and up a path, and what an event does to the rows of one path and to no other.
+pub mod Tests
+pub mod Heads
+pub mod Least
+pub mod Writing
+pub mod Choosing
+pub mod Rising
+pub mod Settling
+pub mod ArrivalPath
+pub mod DeparturePath

@@ -1,0 +1,9 @@
+-- A run: its order, what is counted in it, when the line is idle, how large its numbers are, and what it leaves.
+pub mod Orders
+pub mod Counting
+pub mod History
+pub mod Idle
+pub mod Sizes
+pub mod Quiet
+pub mod Results
+pub mod Run

@@ -1,0 +1,5 @@
+-- A share is a number: own and whole pace, stretches of events, the promise, the lags and the fair index.
+pub mod Pace
+pub mod Stretch
+pub mod Promise
+pub mod Index

@@ -1,0 +1,244 @@
+-- The promise on shares, and the bound on every lag.
+-- Assumes nothing.
+use Prim.Native.Nat.{ℕ, zero, suc, pred, _+_, _*_, _-_, _≤_, _<_}
+use mathlib.Core.Path.{_≡_, refl, sym, _∙_, ap, subst}
+use mathlib.Core.Bool.{Bool, true, false}
+use native.Mathlib.Decide.{ℕ-discrete}
+use native.Mathlib.Nat.{mul-add, mul-le-mul-left, mul-le-mul-right, add-sub-of-le, pos-of-ne-zero, le-refl}
+use native.Mathlib.Omega.{arith}
+use lib.Dec.{ltb}
+use borrow.Author.Tests.{ltb-false, eq-eqb, ne-eqb}
+use lib.IntN.{pos, _-ℤ_, pos-ne-negsuc}
+use Rattle.input.specs.Limits.{whole}
+use Rattle.input.specs.Classes.{Tree, parent, depth, share}
+use Rattle.input.specs.Events.{Events}
+use Rattle.rules.specs.Box.{fresh, bytes-of, held-by}
+use Rattle.rules.specs.Steps.{after}
+use Rattle.rules.specs.Outcome.{lag}
+use Rattle.rules.specs.Promise.{bytes-for, finished-in, Backlogged, Ratio, step-up, climbed, number, largest, Promised}
+use Rattle.laws.specs.Sound.{Kid}
+use Rattle.laws.specs.History.{Accepted, largest-for, Keeps, Since}
+use Rattle.laws.proofs.tree.Paths.{its-parent, at-root, below-root, parent-is-inner}
+use Rattle.laws.proofs.tree.Trees.{share-whole}
+use Rattle.laws.proofs.event.Largest.{part-largest, accepted-wider}
+use Rattle.laws.proofs.event.Outset.{zeros-at}
+use Rattle.laws.proofs.event.Keeping.{busy-holds, kept}
+use Rattle.laws.proofs.run.History.{holds-held}
+use Rattle.laws.proofs.share.Pace.{line}
+use Rattle.laws.proofs.share.Stretch.{head-at, stretch, marks-stay, wakes, bytes-in}
+
+-- ── in numbers ──
+
+-- a step: from the sharp form with a share w and largest packets below, above and overall to the form with three largest packets
+step-sum :
+    (w x x′ own below above most : ℕ) → w ≤ whole → below ≤ most → above ≤ most → x ≤ x′
+    → w * (x′ + below) ≤ w * (x + 2 * above) + whole * (own + 2 * below)
+    → w * (x′ - x) ≤ whole * (own + 3 * most)
+step-sum w x x′ own below above most part low high grows sharper =
+    let bytes : w * (x + (x′ - x)) ≡ w * x′ = ap (λ (n : ℕ). w * n) (add-sub-of-le grows) in
+    let bytes-split = mul-add w x (x′ - x) in
+    let rest : w * (below + (most - below)) ≡ w * most = ap (λ (n : ℕ). w * n) (add-sub-of-le low) in
+    let rest-split = mul-add w below (most - below) in
+    let rest-part = mul-le-mul-right (most - below) part in
+    let above-part = mul-le-mul-left w high in
+    let most-part = mul-le-mul-right most part in
+    omega arith
+
+-- and up: a bound on a row's bytes, as a ratio, gives one on its parent's
+climb-sum :
+    (w above own most denominator numerator : ℕ) → w * above ≤ whole * (own + 3 * most) → own * denominator ≤ numerator
+    → above * (denominator * w) ≤ (numerator + 3 * most * denominator) * whole
+climb-sum w above own most denominator numerator stepped below =
+    let times = mul-le-mul-left denominator stepped in
+    omega arith
+
+-- a lag above 0 is a difference of two numbers
+lag-less : (x y lagging : ℕ) → pos x -ℤ pos y ≡ pos lagging → lagging + y ≤ x
+lag-less x zero lagging is =
+    let same : x + 0 ≡ lagging = cc in
+    omega arith
+lag-less x (suc y) lagging is = go (ltb x (suc y)) refl
+  where
+    go : (b : Bool) → ltb x (suc y) ≡ b → lagging + suc y ≤ x
+    go true less = absurd (pos-ne-negsuc lagging (suc y - suc x) (sym (rw less at is)))
+    go false more =
+        let under = ltb-false x (suc y) more in
+        let positive = rw more at is in
+        let same : x - suc y ≡ lagging = cc in
+        omega arith
+
+-- ── in a run ──
+
+module _ (tree : Tree) (events : Events) (last : ℕ) (ok : Accepted tree events last) where
+  -- a row's ancestors hold a packet where it does
+  keeps-up : (j m n : ℕ) → 0 < j → j < tree .rows → n ≤ last → Keeps tree events j m n → Keeps tree events (parent tree j) m n
+  keeps-up j m n positive inside earlier keeps i from to =
+      let well = kept tree events i last (omega arith) ok in
+      let kid = its-parent tree (ok .sound) j positive inside in
+      busy-holds tree (ok .sound) _ (accepted-wider tree events last ok) i _ well (parent tree j) (ok .sound .parent-row j positive inside)
+      (λ idle. head-at tree events last ok i j (omega arith) inside (keeps i from to) (well .settled .idle-below (parent tree j) idle j kid))
+
+  -- one step up the tree, in its sharp form
+  pub sharp :
+      (p j m n : ℕ) → Kid tree p j → m ≤ n → n ≤ last → Keeps tree events j m n
+      → share tree j * (bytes-of (after tree events n) p + largest-for tree events j last)
+      ≤ share tree j * (bytes-of (after tree events m) p + 2 * largest-for tree events p last)
+      + whole * ((bytes-of (after tree events n) j - bytes-of (after tree events m) j) + 2 * largest-for tree events j last)
+  sharp p j m n kid order earlier keeps =
+      let pace = stretch tree events last ok p j m n kid order earlier keeps in
+      let first = kept tree events m last (omega arith) ok in
+      let sure =
+      line tree (ok .sound) _ (accepted-wider tree events last ok) (after tree events m) (after tree events n) m n p j first
+      (kept tree events n last earlier ok) kid (head-at tree events last ok m j (omega arith) (kid .inside) (keeps m (omega arith) order))
+      (head-at tree events last ok n j earlier (kid .inside) (keeps n order (omega arith))) (pace .own) (pace .top) (pace .grows) in
+      let inner = parent-is-inner tree (ok .sound) p j kid in
+      let small = mul-le-mul-left (share tree j) (first .heads-small p (inner .inside)) in
+      omega arith
+
+  -- and in the form that the number on paper has
+  pub step :
+      (p j m n : ℕ) → Kid tree p j → m ≤ n → n ≤ last → Keeps tree events j m n
+      → share tree j * (bytes-of (after tree events n) p - bytes-of (after tree events m) p)
+      ≤ whole * ((bytes-of (after tree events n) j - bytes-of (after tree events m) j) + 3 * largest events last)
+  step p j m n kid order earlier keeps =
+      step-sum (share tree j) (bytes-of (after tree events m) p) (bytes-of (after tree events n) p)
+      (bytes-of (after tree events n) j - bytes-of (after tree events m) j) (largest-for tree events j last) (largest-for tree events p last) (largest events last)
+      (share-whole (share tree j) (ok .sound .share-allowed j (kid .positive) (kid .inside)))
+      (part-largest tree events j last) (part-largest tree events p last) (stretch tree events last ok p j m n kid order earlier keeps .parent-grows)
+      (sharp p j m n kid order earlier keeps)
+
+  -- ── up the tree ──
+
+  pub climb :
+      (d k m n : ℕ) (q : Ratio) → k < tree .rows → depth tree k ≡ d → m ≤ n → n ≤ last → Keeps tree events k m n
+      → (bytes-of (after tree events n) k - bytes-of (after tree events m) k) * q .denominator ≤ q .numerator
+      → (bytes-of (after tree events n) 0 - bytes-of (after tree events m) 0) * climbed d tree (largest events last) k q .denominator
+      ≤ climbed d tree (largest events last) k q .numerator
+  unfolding climbed step-up
+  climb zero k m n q inside deep order earlier keeps below =
+      rw (at-root tree (ok .sound) k inside deep) at below
+  climb (suc d) k m n q inside deep order earlier keeps below =
+      let positive = below-root tree (ok .sound) k d deep in
+      let deeper = ok .sound .deeper k positive inside in
+      let kid = its-parent tree (ok .sound) k positive inside in
+      climb d (parent tree k) m n (step-up (largest events last) (share tree k) q) (ok .sound .parent-row k positive inside) (omega arith) order earlier
+      (keeps-up k m n positive inside earlier keeps)
+      (climb-sum (share tree k) (bytes-of (after tree events n) (parent tree k) - bytes-of (after tree events m) (parent tree k))
+      (bytes-of (after tree events n) k - bytes-of (after tree events m) k) (largest events last) (q .denominator) (q .numerator)
+      (step (parent tree k) k m n kid order earlier keeps) below)
+
+  -- ── the promise ──
+
+  -- where a stretch is counted from: a moment with the bytes of its beginning, from which on the row holds a packet
+  begins :
+      (r a b : ℕ) → r < tree .rows → a < b → b ≤ last → ((i : ℕ) → a ≤ i → i < b → 0 < held-by (after tree events (suc i)) r)
+      → (m : ℕ) × (m ≤ b) × Keeps tree events r m b × ((x : ℕ) → bytes-of (after tree events m) x ≡ bytes-of (after tree events a) x)
+  begins r a b inside order earlier holds = go (ℕ-discrete (held-by (after tree events a) r) 0)
+    where
+      later : Keeps tree events r (suc a) b
+      later i from to =
+          let is : suc (pred i) ≡ i = omega arith in
+          subst (λ (x : ℕ). 0 < held-by (after tree events x) r) is (holds (pred i) (omega arith) (omega arith))
+
+      go :
+          Dec (held-by (after tree events a) r ≡ 0)
+          → (m : ℕ) × (m ≤ b) × Keeps tree events r m b × ((x : ℕ) → bytes-of (after tree events m) x ≡ bytes-of (after tree events a) x)
+      go (yes empty) =
+          let woken = wakes tree events last ok a r (omega arith) inside empty (holds a (omega arith) order) in
+          (suc a, order, later, woken .2)
+      go (no some) = (a, omega arith, at, λ x. refl)
+        where
+          at : Keeps tree events r a b
+          at i from to = pick (ℕ-discrete i a)
+            where
+              pick : Dec (i ≡ a) → 0 < held-by (after tree events i) r
+              pick (yes first) = rw first (pos-of-ne-zero some)
+              pick (no other) = later i (omega arith) to
+
+  -- the promise to any row, the root too, of which it says nothing new: for a stretch after each event of which the row holds a packet
+  pub promised :
+      (k a b : ℕ) → k < tree .rows → a ≤ b → b ≤ last → Backlogged tree events (after tree events last .order) k a b
+      → Promised tree events (after tree events last .order) (largest events last) k a b
+  unfolding Backlogged number
+  promised k a b inside order earlier backlogged =
+      go (ℕ-discrete a b) (bytes-in tree events last ok a b k order earlier inside) (bytes-in tree events last ok a b 0 order earlier (ok .sound .some-rows))
+    where
+      own : ℕ
+      own = bytes-for tree events k (finished-in events (after tree events last .order) a b)
+
+      all : ℕ
+      all = bytes-for tree events 0 (finished-in events (after tree events last .order) a b)
+
+      bound : Ratio
+      bound = climbed (depth tree k) tree (largest events last) k (record { numerator = own; denominator = 1 })
+
+      go :
+          Dec (a ≡ b) → bytes-of (after tree events b) k ≡ bytes-of (after tree events a) k + own
+          → bytes-of (after tree events b) 0 ≡ bytes-of (after tree events a) 0 + all
+          → all * bound .denominator ≤ bound .numerator
+      go (yes same) own-is all-is =
+          let still = ap (λ (i : ℕ). bytes-of (after tree events i) 0) same in
+          let none : all ≡ 0 = omega arith in
+          rw none (omega arith)
+      go (no other) own-is all-is =
+          let from =
+          begins k a b inside (omega arith) earlier
+          (λ i low high. rw (holds-held tree events (suc i) last k (omega arith) ok inside) at (backlogged i low high)) in
+          let own-from = from .3 k in
+          let all-from = from .3 0 in
+          let is : bytes-of (after tree events b) 0 - bytes-of (after tree events (from .0)) 0 ≡ all = omega arith in
+          subst (λ (x : ℕ). x * bound .denominator ≤ bound .numerator) is
+          (climb (depth tree k) k (from .0) b (record { numerator = own; denominator = 1 }) inside refl (from .1) earlier (from .2) (omega arith))
+
+  -- ── lags ──
+
+  -- one event more: the backlog goes on, or begins with it
+  backlog-on :
+      (r n : ℕ) → r < tree .rows → n < last → 0 < held-by (after tree events (suc n)) r → Dec (held-by (after tree events n) r ≡ 0)
+      → (0 < held-by (after tree events n) r → Since tree events r n) → Since tree events r (suc n)
+  backlog-on r n inside earlier holds (yes empty) before =
+      let woken = wakes tree events last ok n r earlier inside empty holds in
+      (suc n, le-refl (suc n), now, woken .0 ∙ sym (woken .2 r), woken .1 ∙ sym (woken .2 (parent tree r)))
+    where
+      now : Keeps tree events r (suc n) (suc n)
+      now i low high =
+          let is : i ≡ suc n = omega arith in
+          rw is holds
+  backlog-on r n inside earlier holds (no some) before =
+      let since = before (pos-of-ne-zero some) in
+      let marks = marks-stay tree events last ok n r earlier inside (pos-of-ne-zero some) in
+      (since .0, omega arith, on (since .0) (since .2), marks .0 ∙ since .3, marks .1 ∙ since .4)
+    where
+      on : (m : ℕ) → Keeps tree events r m n → Keeps tree events r m (suc n)
+      on m keeps i low high = pick (ℕ-discrete i (suc n))
+        where
+          pick : Dec (i ≡ suc n) → 0 < held-by (after tree events i) r
+          pick (yes is) = rw is holds
+          pick (no other) = keeps i low (omega arith)
+
+  -- a row that holds packets has held some since the moment from which its lag counts
+  pub backlog : (r n : ℕ) → r < tree .rows → n ≤ last → 0 < held-by (after tree events n) r → Since tree events r n
+  unfolding after fresh
+  backlog r zero inside earlier holds = let none = zeros-at r in absurd (omega arith)
+  backlog r (suc n) inside earlier holds =
+      backlog-on r n inside earlier holds (ℕ-discrete (held-by (after tree events n) r) 0) (backlog r n inside (omega arith))
+
+  pub lag-bound : (r n lagging : ℕ) → r < tree .rows → n ≤ last → lag tree (after tree events n) r ≡ pos lagging → lagging ≤ 3 * whole * largest events last
+  unfolding lag
+  lag-bound r n lagging inside earlier is = go (ℕ-discrete r 0) (ℕ-discrete (held-by (after tree events n) r) 0)
+    where
+      nothing : pos 0 ≡ pos lagging → lagging ≤ 3 * whole * largest events last
+      nothing zero-is = let none : 0 ≡ lagging = cc in omega arith
+
+      go : Dec (r ≡ 0) → Dec (held-by (after tree events n) r ≡ 0) → lagging ≤ 3 * whole * largest events last
+      go (yes root) held = nothing (rw (eq-eqb r 0 root) at is)
+      go (no row) (yes empty) = nothing (rw (ne-eqb r 0 row, eq-eqb (held-by (after tree events n) r) 0 empty) at is)
+      go (no row) (no some) =
+          let since = backlog r n inside earlier (pos-of-ne-zero some) in
+          let kid = its-parent tree (ok .sound) r (pos-of-ne-zero row) inside in
+          let stepped = step (parent tree r) r (since .0) n kid (since .1) earlier (since .2) in
+          let difference = rw (ne-eqb r 0 row, ne-eqb (held-by (after tree events n) r) 0 some, since .3, since .4) at is in
+          let all = bytes-of (after tree events n) (parent tree r) - bytes-of (after tree events (since .0)) (parent tree r) in
+          let own = bytes-of (after tree events n) r - bytes-of (after tree events (since .0)) r in
+          let short = lag-less (share tree r * all) (whole * own) lagging difference in
+          omega arith

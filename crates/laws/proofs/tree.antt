@@ -1,0 +1,4 @@
+-- Trees: paths and depths, and what a table has that is not refused.
+pub mod Paths
+pub mod Depths
+pub mod Trees

@@ -1,0 +1,310 @@
+-- A table and an event list that are not refused: what follows from that.
+-- Assumes nothing.
+use Prim.Native.Nat.{ℕ, zero, suc, _+_, _*_, _/_, _≤_, _<_}
+use mathlib.Core.Path.{_≡_, refl, sym, _∙_, ap, subst}
+use mathlib.Core.Logic.{_≢_}
+use mathlib.Core.Bool.{Bool, true, false, cond, not, _||_}
+use mathlib.Core.List.{List, [], _∷_}
+use mathlib.Mathlib.Data.Bool.Basic.{or-eq-false-eq-eq-false-and-eq-false as or-is-false}
+use native.Mathlib.Nat.{div-add-mod, mul-left-comm, mul-comm}
+use native.Mathlib.Decide.{ℕ-discrete}
+use native.Mathlib.Omega.{arith}
+use lib.Dec.{T, ltb, eqb}
+use lib.ListN.{length, getD, set, take, length-set, length-take, length-replicate}
+use lib.Seq.{getD-set-same, getD-set-other}
+use borrow.Author.Tests.{ltb-false, eqb-true, eqb-false, ne-eqb, not-false}
+use Rattle.input.specs.declared.Event.the-variants.{Arrival, Finish}
+use Rattle.input.specs.declared.Refusal.{Refusal}
+use Rattle.input.specs.Limits.{least-rows, most-rows, most-depth, least-bytes, most-bytes, whole, scale}
+use Rattle.input.specs.Shares.{allowed, cost, charge}
+use Rattle.input.specs.Classes.{Table, place-of, earlier, parent-of, zeros, with-row, read, tree-of}
+use Rattle.input.specs.Classes.{Tree, parent, depth, share, row-of, sends, children-share}
+use Rattle.input.specs.Events.{Events, count}
+use Rattle.rules.specs.Box.{Box, has-head}
+use Rattle.input.specs.Refusals.{given, or-else, first, first-below, Room, rows-refused, class-refused, row-refused}
+use Rattle.input.specs.Refusals.{shares-refused, table-refused, meeting-refused}
+use Rattle.rules.specs.Refused.{idle, event-refused, refused}
+use Rattle.input.proofs.ShareTable.{allowed-parts}
+use Rattle.laws.specs.Sound.{Sound, ArrivalFits}
+use Rattle.laws.specs.History.{Accepted}
+use Rattle.laws.proofs.tree.Paths.{sends-sender}
+
+-- ── shares ──
+
+-- an allowed share, and what it is charged: never less than the packet's part of the scale, and by less than a tick more
+pub share-positive : (w : ℕ) → T (allowed w) → 0 < w
+share-positive w ok = allowed-parts w ok .0
+
+pub share-whole : (w : ℕ) → T (allowed w) → w ≤ whole
+share-whole w ok = allowed-parts w ok .1
+
+pub charge-exact : (w l : ℕ) → T (allowed w) → w * charge l w ≡ scale * l
+unfolding charge cost
+charge-exact w l ok =
+    let parts = div-add-mod scale w in
+    let none = allowed-parts w ok .2 in
+    let whole-parts : w * (scale / w) ≡ scale = omega arith in
+    mul-left-comm w l (scale / w) ∙ rw whole-parts (mul-comm l scale)
+
+pub charge-covers : (w l : ℕ) → T (allowed w) → scale * l ≤ w * charge l w
+charge-covers w l ok = let exact = charge-exact w l ok in omega arith
+
+pub charge-close : (w l : ℕ) → T (allowed w) → w * charge l w < scale * l + w
+charge-close w l ok =
+    let exact = charge-exact w l ok in
+    let positive = share-positive w ok in
+    omega arith
+
+-- ── no refusal ──
+
+-- where the first of two refusals is none, neither refuses
+pub or-none : (x y : Refusal) → or-else x y .number ≡ 0 → (x .number ≡ 0) × (y .number ≡ 0)
+unfolding or-else
+or-none x y ok = go (eqb (x .number) 0) refl ok
+  where
+    go : (b : Bool) → eqb (x .number) 0 ≡ b → cond b y x .number ≡ 0 → (x .number ≡ 0) × (y .number ≡ 0)
+    go true e ok = (eqb-true (x .number) 0 e, ok)
+    go false e ok = absurd (eqb-false (x .number) 0 e ok)
+
+-- none of a list refuses
+abbrev pub None : List Refusal → Type 0
+None [] = Unit
+None (x ∷ xs) = (x .number ≡ 0) × None xs
+
+pub first-none : (xs : List Refusal) → first xs .number ≡ 0 → None xs
+unfolding first
+first-none [] ok = tt
+first-none (x ∷ xs) ok = let both = or-none x (first xs) ok in (both .0, first-none xs (both .1))
+
+-- nor at any place where the first of many is none
+pub below-none : (at : ℕ → Refusal) (n : ℕ) → first-below at n .number ≡ 0 → (i : ℕ) → i < n → at i .number ≡ 0
+unfolding first-below
+below-none at zero ok i below = absurd (omega arith)
+below-none at (suc n) ok i below =
+    let both = or-none (first-below at n) (at n) ok in
+    go (below-none at n (both .0) i) (both .1) (ℕ-discrete i n)
+  where
+    go : (i < n → at i .number ≡ 0) → at n .number ≡ 0 → Dec (i ≡ n) → at i .number ≡ 0
+    go earlier last (yes e) = rw e last
+    go earlier last (no other) = earlier (omega arith)
+
+-- a test that would refuse has failed
+pub given-none : (test : Bool) (number place : ℕ) → given test (suc number) place .number ≡ 0 → test ≡ false
+unfolding given
+given-none true number place ok = absurd (omega arith)
+given-none false number place ok = refl
+
+-- ── places in a list ──
+
+-- no place is past the list's end
+pub place-most : (x : ℕ) (ys : List ℕ) → place-of x ys ≤ length ys
+unfolding place-of
+place-most x [] = omega arith
+place-most x (y ∷ ys) = go (eqb x y) (place-most x ys)
+  where
+    go : (b : Bool) → place-of x ys ≤ length ys → cond b 0 (suc (place-of x ys)) ≤ suc (length ys)
+    go true most = omega arith
+    go false most = omega arith
+
+-- a list that is filled place by place
+fill : (ℕ → ℕ) → ℕ → List ℕ
+fill entry zero = zeros
+fill entry (suc r) = set (fill entry r) r (entry r)
+
+pub zeros-full : length zeros ≡ most-rows
+unfolding zeros
+zeros-full = length-replicate {A = ℕ} most-rows 0
+
+fill-length : (entry : ℕ → ℕ) (n : ℕ) → length (fill entry n) ≡ most-rows
+unfolding fill
+fill-length entry zero = zeros-full
+fill-length entry (suc r) = length-set (fill entry r) r (entry r) ∙ fill-length entry r
+
+fill-at : (entry : ℕ → ℕ) (n r : ℕ) → r < n → n ≤ most-rows → getD (fill entry n) r 0 ≡ entry r
+unfolding fill
+fill-at entry zero r below few = absurd (omega arith)
+fill-at entry (suc n) r below few = go (ℕ-discrete r n) (fill-at entry n r)
+  where
+    go : Dec (r ≡ n) → (r < n → n ≤ most-rows → getD (fill entry n) r 0 ≡ entry r) → getD (set (fill entry n) n (entry n)) r 0 ≡ entry r
+    go (yes e) earlier =
+        let long = fill-length entry n in
+        rw e (getD-set-same (fill entry n) n (entry n) 0 (omega arith))
+    go (no other) earlier = getD-set-other (fill entry n) n r (entry n) 0 other ∙ earlier (omega arith) (omega arith)
+
+-- ── a table as it is read ──
+
+module _ (table : Table) where
+  -- the depth that row r gets when it is read
+  unfoldable pub depth-read : ℕ → ℕ
+  depth-read r = cond (eqb r 0) 0 (suc (depth (read table r) (parent-of table r)))
+
+  -- each list of the tree, after the first n rows
+  pub read-rows : (n : ℕ) → read table n .rows ≡ n
+  unfolding read with-row
+  read-rows zero = refl
+  read-rows (suc n) = refl
+
+  pub read-identifiers : (n : ℕ) → read table n .identifiers ≡ table .identifiers
+  unfolding read with-row
+  read-identifiers zero = refl
+  read-identifiers (suc n) = read-identifiers n
+
+  read-parents : (n : ℕ) → read table n .parents ≡ fill (parent-of table) n
+  unfolding read with-row fill
+  read-parents zero = refl
+  read-parents (suc n) = rw (read-parents n)
+
+  read-depths : (n : ℕ) → read table n .depths ≡ fill depth-read n
+  unfolding read with-row fill depth-read
+  read-depths zero = refl
+  read-depths (suc n) = ap (λ (xs : List ℕ). set xs n (depth-read n)) (read-depths n)
+
+  read-shares : (n : ℕ) → read table n .shares ≡ fill (λ r. getD (table .shares) r 0) n
+  unfolding read with-row fill
+  read-shares zero = refl
+  read-shares (suc n) = rw (read-shares n)
+
+  -- where a row's parent is found, it is read before the row
+  parent-earlier : (r : ℕ) → parent-of table r ≢ r → parent-of table r < r
+  unfolding parent-of earlier
+  parent-earlier r found =
+      let before = take r (table .identifiers) in
+      let most = place-most (getD (table .parent-identifiers) r 0) before in
+      let short = length-take r (table .identifiers) in
+      omega arith
+
+  module _ (n : ℕ) (few : n ≤ most-rows) where
+    pub parent-at : (r : ℕ) → r < n → parent (read table n) r ≡ parent-of table r
+    parent-at r below = rw (read-parents n) (fill-at (parent-of table) n r below few)
+
+    pub share-at : (r : ℕ) → r < n → share (read table n) r ≡ getD (table .shares) r 0
+    share-at r below = rw (read-shares n) (fill-at (λ r. getD (table .shares) r 0) n r below few)
+
+    pub depth-at : (r : ℕ) → r < n → depth (read table n) r ≡ depth-read r
+    depth-at r below = rw (read-depths n) (fill-at depth-read n r below few)
+
+  -- a row is one deeper than its parent: the rows that are read later leave both depths as they were
+  depth-below :
+      (n r : ℕ) → n ≤ most-rows → 0 < r → r < n → parent-of table r ≢ r
+      → depth (read table n) r ≡ suc (depth (read table n) (parent (read table n) r))
+  unfolding depth-read
+  depth-below n r few positive below found =
+      let before = parent-earlier r found in
+      let other : r ≢ 0 = omega arith in
+      let there = depth-at r (omega arith) (parent-of table r) before in
+      let here = depth-at n few (parent-of table r) (omega arith) in
+      depth-at n few r below ∙ rw (ne-eqb r 0 other, parent-at n few r below, here) (ap suc there)
+
+  -- ── a table that is not refused ──
+
+  rows-fit : rows-refused table .number ≡ 0 → (least-rows ≤ length (table .identifiers)) × (length (table .identifiers) ≤ most-rows)
+  unfolding rows-refused
+  rows-fit ok =
+      let rows = length (table .identifiers) in
+      let unequal = not (eqb (length (table .parent-identifiers)) rows) || not (eqb (length (table .shares)) rows) in
+      let last = or-is-false (unequal || ltb rows least-rows) (ltb most-rows rows) .0 (given-none _ _ _ ok) in
+      let third = or-is-false unequal (ltb rows least-rows) .0 (last .0) in
+      (ltb-false rows least-rows (third .1), ltb-false most-rows rows (last .1))
+
+  class-fits :
+      (r : ℕ) → class-refused table r .number ≡ 0
+      → (parent-of table r ≢ r) × T (allowed (getD (table .shares) r 0)) × (depth (tree-of table) r ≤ most-depth)
+  unfolding class-refused
+  class-fits r ok =
+      let all = first-none _ ok in
+      let found = given-none (eqb (parent-of table r) r) _ _ (all .1 .1 .0) in
+      let share-ok = not-false (allowed (getD (table .shares) r 0)) (given-none _ _ _ (all .1 .1 .1 .0)) in
+      let shallow = given-none (ltb most-depth (depth (tree-of table) r)) _ _ (all .1 .1 .1 .1 .0) in
+      (eqb-false (parent-of table r) r found, subst T (sym share-ok) tt, ltb-false most-depth (depth (tree-of table) r) shallow)
+
+-- a table that is not refused is read as a sound tree
+pub sound : (table : Table) → rows-refused table .number ≡ 0 → table-refused table .number ≡ 0 → Sound (tree-of table)
+unfolding tree-of table-refused row-refused shares-refused depth-read
+sound table rows-ok table-ok =
+    record {
+      some-rows = omega (arith, rows, size .0);
+      few-rows = omega (arith, rows, few);
+      named = ap length (read-identifiers table n) ∙ sym rows;
+      root-depth = root;
+      parent-row = λ r positive inside. in-rows r positive (low r inside);
+      deeper = λ r positive inside. depth-below table n r few positive (low r inside) (fits r positive (low r inside) .0);
+      shallow = λ r inside. shallow r (low r inside);
+      share-allowed = λ r positive inside.
+          subst (λ (w : ℕ). T (allowed w)) (sym (share-at table n few r (low r inside))) (fits r positive (low r inside) .1);
+      shares-fit = λ p inside. subst (λ (k : ℕ). children-share (tree-of table) p k ≤ whole) (sym rows) (together p (low p inside));
+    }
+  where
+    n : ℕ
+    n = length (table .identifiers)
+
+    size : (least-rows ≤ n) × (n ≤ most-rows)
+    size = rows-fit table rows-ok
+
+    few : n ≤ most-rows
+    few = size .1
+
+    rows : tree-of table .rows ≡ n
+    rows = read-rows table n
+
+    low : (r : ℕ) → r < tree-of table .rows → r < n
+    low r inside = omega (arith, rows)
+
+    both : (first-below (row-refused table) n .number ≡ 0) × (first-below (shares-refused table) n .number ≡ 0)
+    both = or-none (first-below (row-refused table) n) (first-below (shares-refused table) n) table-ok
+
+    fits :
+        (r : ℕ) → 0 < r → r < n
+        → (parent-of table r ≢ r) × T (allowed (getD (table .shares) r 0)) × (depth (tree-of table) r ≤ most-depth)
+    fits zero positive below = absurd (omega arith)
+    fits (suc r) positive below = class-fits table (suc r) (below-none (row-refused table) n (both .0) (suc r) below)
+
+    in-rows : (r : ℕ) → 0 < r → r < n → parent (tree-of table) r < tree-of table .rows
+    in-rows r positive below =
+        omega (arith, rows, parent-at table n few r below, parent-earlier table r (fits r positive below .0))
+
+    root : depth (tree-of table) 0 ≡ 0
+    root = depth-at table n few 0 (omega (arith, size .0))
+
+    shallow : (r : ℕ) → r < n → depth (tree-of table) r ≤ most-depth
+    shallow zero below = omega (arith, root)
+    shallow (suc r) below = fits (suc r) (omega arith) below .2
+
+    together : (p : ℕ) → p < n → children-share (tree-of table) p n ≤ whole
+    together p below = ltb-false whole _ (given-none _ _ _ (below-none (shares-refused table) n (both .1) p below))
+
+-- an event that is not refused
+pub arrival-fits :
+    (tree : Tree) → Sound tree → (i word class length : ℕ) (idles : Bool)
+    → meeting-refused tree i word (Arrival class length) idles .number ≡ 0 → ArrivalFits tree class length
+unfolding meeting-refused row-of
+arrival-fits tree sound i word class bytes idles ok =
+    let all = first-none _ ok in
+    let k = row-of tree class in
+    let found = eqb-false k (tree .rows) (given-none _ _ _ (all .0)) in
+    let is-sender = not-false (sends tree k) (given-none _ _ _ (all .1 .0)) in
+    let most = place-most class (tree .identifiers) in
+    let named = sound .named in
+    let size = or-is-false (ltb bytes least-bytes) (ltb most-bytes bytes) .0 (given-none _ _ _ (all .1 .1 .0)) in
+    record {
+      sender = sends-sender tree k (omega arith) is-sender;
+      some-bytes = ltb-false bytes least-bytes (size .0);
+      few-bytes = ltb-false most-bytes bytes (size .1);
+    }
+
+pub finish-fits :
+    (tree : Tree) (i word : ℕ) (box : Box) → meeting-refused tree i word Finish (idle box) .number ≡ 0
+    → (word ≡ 0) × (has-head (box .rows) 0 ≡ true)
+unfolding meeting-refused idle
+finish-fits tree i word box ok =
+    let all = first-none _ ok in
+    (eqb-true word 0 (not-false (eqb word 0) (given-none _ _ _ (all .0))), not-false (has-head (box .rows) 0) (given-none _ _ _ (all .1 .0)))
+
+-- an input that is not refused
+pub accepted : (table : Table) (events : Events) (room : Room) → refused table events room .number ≡ 0 → Accepted (tree-of table) events (count events)
+unfolding refused
+accepted table events room ok =
+    let all = first-none _ ok in
+    record {
+      sound = sound table (all .0) (all .1 .1 .1 .0);
+      each = below-none (event-refused (tree-of table) events) (count events) (all .1 .1 .1 .1 .0);
+    }

@@ -1,0 +1,2 @@
+-- What a statement says that leaves no choice.
+pub mod Unique

@@ -1,0 +1,39 @@
+// What several crates use alike: arrays with an entry for each row that there can be, numbers as indices, and a word or zero.
+ghost use mathlib.Core.Path.{_≡_};
+ghost use Prim.Native.Nat.{_<_, _^_};
+ghost use lib.ListN.{getD};
+
+// ── an entry for each row ──
+
+pub type RowLongs = [u64; 256];
+
+pub type RowWords = [u32; 256];
+
+pub type RowMarks = [bool; 256];
+
+// ── numbers ──
+
+// A number as an index.
+pub fn wide(x: u32) -> usize
+    ensures { λ r. ⌜ (r ≡ x) × (r < 2 ^ 32) ⌝ }
+{
+    x as usize
+}
+
+// A number as a longer one.
+pub fn long(x: u32) -> u64
+    ensures { λ r. ⌜ (r ≡ x) × (r < 2 ^ 32) ⌝ }
+{
+    x as u64
+}
+
+// The word at this place; 0 past the end.
+pub fn word(words: &[u32], place: u32) -> u32
+    ensures { λ r. ⌜ r ≡ getD (now (words .entry)) place 0 ⌝ }
+{
+    let at = place as usize;
+    if at < words.len() {
+        return words[at];
+    }
+    0
+}
