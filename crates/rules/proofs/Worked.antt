@@ -7,7 +7,8 @@ use Rattle.input.specs.Classes.{place-of, earlier, parent-of, zeros, with-row, 
 use Rattle.input.specs.Events.{decode, event}
 use Rattle.rules.specs.Box.{fresh, has-head}
 use Rattle.rules.specs.Steps
-use Rattle.rules.specs.Refusals
+use Rattle.input.specs.Refusals
+use Rattle.rules.specs.Refused
 use Rattle.rules.specs.Outcome.{outcome, row-report, report-of, lag, lags-of, over, room-of, refusing, doing}
 use Rattle.rules.specs.Worked
 
@@ -22,7 +23,7 @@ unfolding allowed cost charge place-of earlier parent-of zeros with-row read tre
     Steps.goes-on Steps.sent Steps.arrival Steps.departure Steps.step Steps.after
     Refusals.nothing Refusals.given Refusals.or-else Refusals.first Refusals.first-below Refusals.rows-refused Refusals.events-refused
     Refusals.room-refused Refusals.doubled Refusals.root-refused Refusals.class-refused Refusals.row-refused Refusals.shares-refused
-    Refusals.table-refused Refusals.idle Refusals.meeting-refused Refusals.event-refused Refusals.refused
+    Refusals.table-refused Refused.idle Refusals.meeting-refused Refused.event-refused Refused.refused
     outcome row-report report-of lag lags-of over room-of refusing doing
     Worked.row Worked.packet Worked.finish Worked.lend Worked.found Worked.halves Worked.p1 Worked.p2 Worked.p3 Worked.p4 Worked.p5
     Worked.p6 Worked.p7 Worked.p8 Worked.p9 Worked.p10 Worked.p11 Worked.p12 Worked.not-eligible Worked.behind Worked.runs
