@@ -41,3 +41,7 @@ scale = ticks * whole
 -- words of the report for a row
 abbrev pub report-words : ℕ
 report-words = 5
+
+-- largest packets that each step of the promise on shares adds
+abbrev pub packets-a-step : ℕ
+packets-a-step = 3

@@ -5,3 +5,4 @@ pub mod path
 pub mod event
 pub mod run
 pub mod share
+pub mod outcome

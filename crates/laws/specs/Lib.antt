@@ -1,4 +1,4 @@
--- What the theorems speak of: sound trees, what an event does at one level, a level's balance, a well-kept box.
+-- What the theorems speak of: sound trees, what an event does at one level, a level's balance, a well-kept box, a list cut short.
 pub mod Sound
 pub mod Moves
 pub mod Level
@@ -6,3 +6,4 @@ pub mod Kept
 pub mod Line
 pub mod History
 pub mod Pace
+pub mod Shorter

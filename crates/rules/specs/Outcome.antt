@@ -1,5 +1,6 @@
 -- The run's whole outcome: the answer, and every word of every lent slice afterwards.
 use Prim.Native.Nat.{ℕ, zero, suc, _*_, _-_}
+use mathlib.Core.Path.{_≡_}
 use mathlib.Core.Bool.{cond, _||_}
 use mathlib.Core.List.{List, [], _∷_, _++_}
 use lib.Dec.{eqb}
@@ -98,3 +99,7 @@ outcome lent =
     let tree = tree-of (lent .table) in
     let refusal = refused (lent .table) (lent .events) (room-of lent) in
     cond (eqb (refusal .number) 0) (doing lent tree (after tree (lent .events) (count (lent .events)))) (refusing lent refusal)
+
+-- the run of what was lent leaves this, the answer and every word of every slice
+abbrev pub Ran : Lent → Outcome → Type 0
+Ran lent left = left ≡ outcome lent

@@ -63,6 +63,11 @@ unfoldable pub bytes-for : Tree → Events → ℕ → List ℕ → ℕ
 bytes-for tree events r [] = 0
 bytes-for tree events r (i ∷ is) = cond (for-part tree events r i) (length-word events i) 0 + bytes-for tree events r is
 
+-- how many bytes a list of packets has, whatever their classes
+unfoldable pub line-bytes : Events → List ℕ → ℕ
+line-bytes events [] = 0
+line-bytes events (i ∷ is) = length-word events i + line-bytes events is
+
 -- the packets finished in the first n events: the line finishes packets in the order in which they went on it
 unfoldable pub finished : Events → List ℕ → ℕ → List ℕ
 finished events order n = take (finish-count events n) order
@@ -86,29 +91,34 @@ pub record Ratio : Type 0 where
   pub numerator : ℕ
   pub denominator : ℕ
 
--- one step up from a row with this share: three largest packets more, times the whole over the share
-unfoldable pub step-up : ℕ → ℕ → Ratio → Ratio
-step-up largest share q =
+-- the whole over a share
+abbrev pub whole-over : ℕ → Ratio
+whole-over share = record { numerator = whole; denominator = share }
+
+-- one step up: so many largest packets more, times a fraction
+unfoldable pub step-up : ℕ → ℕ → Ratio → Ratio → Ratio
+step-up packets largest times q =
     record {
-      numerator = (q .numerator + 3 * largest * q .denominator) * whole;
-      denominator = q .denominator * share;
+      numerator = (q .numerator + packets * largest * q .denominator) * times .numerator;
+      denominator = q .denominator * times .denominator;
     }
 
--- from row k, which is at this depth, step by step up to the root
-unfoldable pub climbed : ℕ → Tree → ℕ → ℕ → Ratio → Ratio
-climbed zero tree largest k q = q
-climbed (suc d) tree largest k q = climbed d tree largest (parent tree k) (step-up largest (share tree k) q)
+-- from row k, which is at this depth, step by step up to the root, each time by the whole over the row's share
+unfoldable pub climbed : ℕ → Tree → ℕ → ℕ → ℕ → Ratio → Ratio
+climbed zero tree packets largest k q = q
+climbed (suc d) tree packets largest k q =
+    climbed d tree packets largest (parent tree k) (step-up packets largest (whole-over (share tree k)) q)
 
--- the number for row k from its own bytes
-unfoldable pub number : Tree → ℕ → ℕ → ℕ → Ratio
-number tree largest k own = climbed (depth tree k) tree largest k (record { numerator = own; denominator = 1 })
+-- the number for row k from its own bytes: the most that the line may have finished
+unfoldable pub line-most : Tree → ℕ → ℕ → ℕ → ℕ → Ratio
+line-most tree packets largest k own = climbed (depth tree k) tree packets largest k (record { numerator = own; denominator = 1 })
 
 -- ── the promise ──
 
--- to row k in a stretch: the bytes that the whole line finished in it are at most the number from k's own. That is a fraction, so both
--- sides are taken times its denominator
-abbrev pub Promised : Tree → Events → List ℕ → ℕ → ℕ → ℕ → ℕ → Type 0
-Promised tree events order largest k a b =
-    let packets = finished-in events order a b in
-    let most = number tree largest k (bytes-for tree events k packets) in
-    bytes-for tree events 0 packets * most .denominator ≤ most .numerator
+-- to row k in a stretch, with so many largest packets a step: the lengths of all packets finished in it are together at most the number from
+-- k's own bytes. That is a fraction, so both sides are taken times its denominator
+abbrev pub Promised : Tree → Events → List ℕ → ℕ → ℕ → ℕ → ℕ → ℕ → Type 0
+Promised tree events order packets largest k a b =
+    let sent = finished-in events order a b in
+    let most = line-most tree packets largest k (bytes-for tree events k sent) in
+    line-bytes events sent * most .denominator ≤ most .numerator

@@ -8,10 +8,10 @@ use native.Mathlib.Nat.{div-mul-cancel, le-mul-of-pos-right, mul-pos}
 use native.Mathlib.Decide.{ℕ-discrete, decLt}
 use native.Mathlib.Omega.{arith}
 use borrow.Author.Tests.{lt-ltb, le-ltb, eq-eqb, ne-eqb}
-use Rattle.input.specs.Limits.{whole}
-use Rattle.rules.specs.Promise.{Ratio}
+use Rattle.input.specs.Limits.{packets-a-step}
+use Rattle.rules.specs.Promise.{Ratio, whole-over, step-up}
 use Rattle.sheet.specs.declared.Figure.{Figure}
-use Rattle.sheet.specs.Paper.{over, greatest, lowest, limit, figure, outgrown, fitting, raised, stepped}
+use Rattle.sheet.specs.Paper.{greatest, lowest, limit, figure, ratio-of, outgrown, fitting, stepped}
 use Rattle.sheet.proofs.Greatest.{greatest-divides}
 
 -- ── lowest terms ──
@@ -74,7 +74,11 @@ module _ (q : Ratio) where
 
 -- the whole over a share
 abbrev pub part : ℕ → Ratio
-part share = lowest (over whole share)
+part share = lowest (whole-over share)
+
+-- a step up from a figure, before it is cancelled
+abbrev pub up : ℕ → ℕ → Figure → Ratio
+up largest share from = step-up packets-a-step largest (part share) (ratio-of from)
 
 module _ (largest share : ℕ) (from : Figure) where
   pub stays-outgrown : from .fits ≡ false → stepped largest share from ≡ outgrown
@@ -85,37 +89,37 @@ module _ (largest share : ℕ) (from : Figure) where
   unfolding stepped
   over-nothing so none = rw (stepped, so, eq-eqb share 0 none) refl
 
-  pub steps-up : from .fits ≡ true → share ≢ 0 → stepped largest share from ≡ fitting (raised largest (part share) from)
-  unfolding stepped raised
+  pub steps-up : from .fits ≡ true → share ≢ 0 → stepped largest share from ≡ fitting (up largest share from)
+  unfolding stepped
   steps-up so some = rw (stepped, so, ne-eqb share 0 some) refl
 
-  -- three largest packets more are already too many: the whole over a share is no less than 1
-  pub too-many : from .fits ≡ true → share ≢ 0 → limit ≤ from .numerator + 3 * largest * from .denominator → stepped largest share from ≡ outgrown
-  unfolding raised
+  -- the largest packets more are already too many: the whole over a share is no less than 1
+  pub too-many : from .fits ≡ true → share ≢ 0 → limit ≤ from .numerator + packets-a-step * largest * from .denominator → stepped largest share from ≡ outgrown
+  unfolding step-up
   too-many so some large =
-      let at-least = le-mul-of-pos-right (from .numerator + 3 * largest * from .denominator) (numerator-some (over whole share) (omega arith)) in
-      steps-up so some ∙ numerator-over (raised largest (part share) from) (omega arith)
+      let at-least = le-mul-of-pos-right (from .numerator + packets-a-step * largest * from .denominator) (numerator-some (whole-over share) (omega arith)) in
+      steps-up so some ∙ numerator-over (up largest share from) (omega arith)
 
   -- a step that fits came from a figure that fits, over a share, and is in lowest terms
   pub step-fits :
       stepped largest share from .fits ≡ true
-      → (from .fits ≡ true) × (share ≢ 0) × (stepped largest share from ≡ figure (lowest (raised largest (part share) from)))
+      → (from .fits ≡ true) × (share ≢ 0) × (stepped largest share from ≡ figure (lowest (up largest share from)))
   step-fits fits = go (from .fits) refl (ℕ-discrete share 0)
     where
       go :
           (t : Bool) → from .fits ≡ t → Dec (share ≡ 0)
-          → (from .fits ≡ true) × (share ≢ 0) × (stepped largest share from ≡ figure (lowest (raised largest (part share) from)))
+          → (from .fits ≡ true) × (share ≢ 0) × (stepped largest share from ≡ figure (lowest (up largest share from)))
       go false not-so none = absurd (false≢true (rw (stays-outgrown not-so) at fits))
       go true so (yes none) = absurd (false≢true (rw (over-nothing so none) at fits))
       go true so (no some) =
-          (so, some, steps-up so some ∙ fitting-is (raised largest (part share) from) (rw (steps-up so some) at fits))
+          (so, some, steps-up so some ∙ fitting-is (up largest share from) (rw (steps-up so some) at fits))
 
-  pub raised-some : 0 < from .denominator → share ≢ 0 → 0 < raised largest (part share) from .denominator
-  unfolding raised
-  raised-some before some = mul-pos before (denominator-some (over whole share) (omega arith))
+  pub up-some : 0 < from .denominator → share ≢ 0 → 0 < up largest share from .denominator
+  unfolding step-up
+  up-some before some = mul-pos before (denominator-some (whole-over share) (omega arith))
 
   -- a step that fits keeps the denominator above 0
   pub step-some : (from .fits ≡ true → 0 < from .denominator) → stepped largest share from .fits ≡ true → 0 < stepped largest share from .denominator
   step-some before fits =
       let known = step-fits fits in
-      rw (known .2) (denominator-some (raised largest (part share) from) (raised-some (before (known .0)) (known .1)))
+      rw (known .2) (denominator-some (up largest share from) (up-some (before (known .0)) (known .1)))

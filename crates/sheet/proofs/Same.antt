@@ -8,13 +8,13 @@ use mathlib.Core.List.{List}
 use native.Mathlib.Nat.{eq-of-mul-eq-mul-right, mul-pos, mul-dvd-mul-right, le-of-dvd, pos-of-dvd-of-pos, le-of-mul-le-mul-right}
 use native.Mathlib.Omega.{arith}
 use lib.ListN.{getD}
-use Rattle.input.specs.Limits.{whole}
+use Rattle.input.specs.Limits.{packets-a-step}
 use Rattle.input.specs.Classes.{Tree, parent, share}
-use Rattle.rules.specs.Promise.{Ratio, step-up, climbed}
+use Rattle.rules.specs.Promise.{Ratio, whole-over, step-up, climbed}
 use Rattle.sheet.specs.declared.Figure.{Figure}
-use Rattle.sheet.specs.Paper.{over, lowest, figure, raised, stepped, climbing, worked}
+use Rattle.sheet.specs.Paper.{over, lowest, figure, stepped, climbing, worked}
 use Rattle.sheet.proofs.Greatest.{greatest-some, greatest-most}
-use Rattle.sheet.proofs.Figures.{divisor, part, numerator-whole, denominator-whole, denominator-some, step-fits, raised-some}
+use Rattle.sheet.proofs.Figures.{divisor, part, up, numerator-whole, denominator-whole, denominator-some, step-fits, up-some}
 
 -- ── the same number ──
 
@@ -45,47 +45,52 @@ crossed x y d e p r g h a b same above below some =
     last = omega arith
 
 module _ (largest share : ℕ) (f : Figure) (q : Ratio) where
-  abbrev up : Ratio
-  up = raised largest (part share) f
+  abbrev higher : Ratio
+  higher = up largest share f
 
-  crosswise-up : Stands f q → lowest up .numerator * step-up largest share q .denominator ≡ step-up largest share q .numerator * lowest up .denominator
-  unfolding raised step-up
+  abbrev ratio-higher : Ratio
+  ratio-higher = step-up packets-a-step largest (whole-over share) q
+
+  crosswise-up : Stands f q → lowest higher .numerator * ratio-higher .denominator ≡ ratio-higher .numerator * lowest higher .denominator
+  unfolding step-up
   crosswise-up was =
       let same = was .crosswise in
-      rw (denominator-whole (over whole share), numerator-whole (over whole share)) at
-      (crossed (f .numerator + 3 * largest * f .denominator) (q .numerator + 3 * largest * q .denominator) (f .denominator) (q .denominator)
-      (part share .numerator) (part share .denominator) (divisor (over whole share)) (divisor up) (lowest up .numerator) (lowest up .denominator)
-      (omega arith) (numerator-whole up) (denominator-whole up) (greatest-some (up .numerator) (up .denominator) (up .denominator)))
+      rw (denominator-whole (whole-over share), numerator-whole (whole-over share)) at
+      (crossed (f .numerator + packets-a-step * largest * f .denominator) (q .numerator + packets-a-step * largest * q .denominator)
+      (f .denominator) (q .denominator) (part share .numerator) (part share .denominator) (divisor (whole-over share)) (divisor higher)
+      (lowest higher .numerator) (lowest higher .denominator) (omega arith) (numerator-whole higher) (denominator-whole higher)
+      (greatest-some (higher .numerator) (higher .denominator) (higher .denominator)))
 
-  ratio-up : 0 < q .denominator → share ≢ 0 → 0 < step-up largest share q .denominator
+  ratio-up : 0 < q .denominator → share ≢ 0 → 0 < ratio-higher .denominator
   unfolding step-up
   ratio-up before some = mul-pos before (omega arith)
 
-  step-stands : (f .fits ≡ true → Stands f q) → stepped largest share f .fits ≡ true → Stands (stepped largest share f) (step-up largest share q)
+  step-stands : (f .fits ≡ true → Stands f q) → stepped largest share f .fits ≡ true → Stands (stepped largest share f) ratio-higher
   step-stands before fits =
       let known = step-fits largest share f fits in
       let was = before (known .0) in
       rw (known .2)
       (record {
         crosswise = crosswise-up was;
-        figure-some = denominator-some up (raised-some largest share f (was .figure-some) (known .1));
+        figure-some = denominator-some higher (up-some largest share f (was .figure-some) (known .1));
         ratio-some = ratio-up (was .ratio-some) (known .1);
       })
 
 climb-stands :
     (steps : ℕ) (tree : Tree) (largest row : ℕ) (f : Figure) (q : Ratio) → (f .fits ≡ true → Stands f q)
     → climbing steps (tree .parents) (tree .shares) largest row f .fits ≡ true
-    → Stands (climbing steps (tree .parents) (tree .shares) largest row f) (climbed steps tree largest row q)
+    → Stands (climbing steps (tree .parents) (tree .shares) largest row f) (climbed steps tree packets-a-step largest row q)
 unfolding climbing climbed
 climb-stands zero tree largest row f q before = before
 climb-stands (suc n) tree largest row f q before =
-    climb-stands n tree largest (parent tree row) (stepped largest (share tree row) f) (step-up largest (share tree row) q)
+    climb-stands n tree largest (parent tree row) (stepped largest (share tree row) f)
+    (step-up packets-a-step largest (whole-over (share tree row)) q)
     (step-stands largest (share tree row) f q before)
 
--- after as many steps as the row's depth this is the promise's `number`
+-- after as many steps as the row's depth this is the promise's `line-most`
 pub same :
     (steps : ℕ) (tree : Tree) (largest row own : ℕ) → worked steps (tree .parents) (tree .shares) largest row own .fits ≡ true
-    → Stands (worked steps (tree .parents) (tree .shares) largest row own) (climbed steps tree largest row (over own 1))
+    → Stands (worked steps (tree .parents) (tree .shares) largest row own) (climbed steps tree packets-a-step largest row (over own 1))
 unfolding worked
 same steps tree largest row own =
     climb-stands steps tree largest row (figure (over own 1)) (over own 1)
@@ -121,9 +126,9 @@ climb-lowest (suc n) parents shares largest row f before =
         → (0 < stepped largest (getD shares row 0) f .denominator) × Lowest (stepped largest (getD shares row 0) f)
     next fits =
         let known = step-fits largest (getD shares row 0) f fits in
-        let up = raised largest (part (getD shares row 0)) f in
-        let some = raised-some largest (getD shares row 0) f (before (known .0) .0) (known .1) in
-        rw (known .2) (denominator-some up some, lowest-lowest up some)
+        let higher = up largest (getD shares row 0) f in
+        let some = up-some largest (getD shares row 0) f (before (known .0) .0) (known .1) in
+        rw (known .2) (denominator-some higher some, lowest-lowest higher some)
 
 pub lowest-terms :
     (steps : ℕ) (parents shares : List ℕ) (largest row own : ℕ) → worked steps parents shares largest row own .fits ≡ true

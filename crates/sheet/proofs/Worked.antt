@@ -3,8 +3,9 @@
 use Prim.Native.Nat.{ℕ}
 use mathlib.Core.Path.{_≡_, refl}
 use mathlib.Core.List.{[], _∷_, _++_, map}
+use Rattle.rules.specs.Promise.{step-up}
 use Rattle.sheet.specs.declared.Figure.{Figure}
-use Rattle.sheet.specs.Paper.{over, divides-both, greatest, lowest, figure, outgrown, fitting, raised, stepped, climbing, worked, rounded-up}
+use Rattle.sheet.specs.Paper.{over, divides-both, greatest, lowest, figure, outgrown, fitting, stepped, climbing, worked, rounded-up}
 
 -- the example of docs/FAIRNESS.md: class 110, in row 3, finished 6,000 bytes, and the largest packet has 1,500
 pub alfa : ℕ → Figure
@@ -28,7 +29,7 @@ pub figures :
     ∷ outgrown
     ∷ outgrown
     ∷ []
-unfolding alfa ninth ones worked climbing stepped raised fitting lowest greatest divides-both
+unfolding alfa ninth ones worked climbing stepped step-up fitting lowest greatest divides-both
 figures = refl
 
 -- rounded up: 27,750 bytes, 28,093 and a third, and what has outgrown the words

@@ -1,11 +1,11 @@
 -- The number of the promise as it is worked out in 64-bit words: a fraction in lowest terms for as long as it fits them.
-use Prim.Native.Nat.{ℕ, zero, suc, _+_, _*_, _/_, _%_, _^_}
+use Prim.Native.Nat.{ℕ, zero, suc, _+_, _/_, _%_, _^_}
 use mathlib.Core.Bool.{Bool, true, false, cond, not, _&&_}
 use mathlib.Core.List.{List}
 use lib.Dec.{ltb, eqb}
 use lib.ListN.{getD}
-use Rattle.input.specs.Limits.{whole}
-use Rattle.rules.specs.Promise.{Ratio}
+use Rattle.input.specs.Limits.{packets-a-step}
+use Rattle.rules.specs.Promise.{Ratio, whole-over, step-up}
 use Rattle.sheet.specs.declared.Figure.{Figure}
 
 -- ── lowest terms ──
@@ -36,6 +36,9 @@ limit = 2 ^ 64
 abbrev pub figure : Ratio → Figure
 figure q = record { fits = true; numerator = q .numerator; denominator = q .denominator }
 
+abbrev pub ratio-of : Figure → Ratio
+ratio-of f = over (f .numerator) (f .denominator)
+
 abbrev pub outgrown : Figure
 outgrown = record { fits = false; numerator = 0; denominator = 0 }
 
@@ -45,16 +48,14 @@ fitting q = elim (ltb (q .numerator) limit && ltb (q .denominator) limit) [ true
 
 -- ── steps up ──
 
--- three largest packets more, times a fraction
-unfoldable pub raised : ℕ → Ratio → Figure → Ratio
-raised largest part from =
-    over ((from .numerator + 3 * largest * from .denominator) * part .numerator) (from .denominator * part .denominator)
-
--- one step up from a row with this share: three largest packets more, times the whole over the share. What is outgrown stays so,
--- and over a share of 0 there is no figure
+-- one step up from a row with this share, by the whole over the share in lowest terms. What is outgrown stays so, and over a share of 0
+-- there is no figure
 unfoldable pub stepped : ℕ → ℕ → Figure → Figure
 stepped largest share from =
-    elim (from .fits && not (eqb share 0)) [ true ↦ fitting (raised largest (lowest (over whole share)) from) | false ↦ outgrown ]
+    elim (from .fits && not (eqb share 0)) [
+      true ↦ fitting (step-up packets-a-step largest (lowest (whole-over share)) (ratio-of from))
+      | false ↦ outgrown
+    ]
 
 -- so many steps up from a row
 unfoldable pub climbing : ℕ → List ℕ → List ℕ → ℕ → ℕ → Figure → Figure

@@ -27,7 +27,7 @@ abbrev pub Arrives : Events → ℕ → Type 0
 Arrives events i = event events i ≡ Arrival (class-word events i) (length-word events i)
 
 -- each event is that, or a finish
-met : (events : Events) (i : ℕ) → Arrives events i ⊎ (event events i ≡ Finish)
+pub met : (events : Events) (i : ℕ) → Arrives events i ⊎ (event events i ≡ Finish)
 unfolding event decode
 met events i = go (eqb (class-word events i) 0)
   where

@@ -26,6 +26,10 @@ use Rattle.laws.proofs.level.Levels.{not-behind}
 use Rattle.laws.proofs.event.OneEvent.{arrival-at, arrival-bytes, line-sender, departure-on, departure-off, departure-bytes, bytes-on, bytes-off}
 use Rattle.laws.proofs.event.Keeping.{holds-head, departure-kept}
 
+-- a share and what is left of the whole
+pub parts : (w x : ℕ) → w ≤ whole → w * x + (whole - w) * x ≡ whole * x
+parts w x part = sym (add-mul w (whole - w) x) ∙ ap (λ (n : ℕ). n * x) (add-sub-of-le part)
+
 -- the line in numbers: a share w, a virtual time v, the bytes finished and taken x, a start s, a charge e, bytes b, each at the first and
 -- at the second moment, and the largest packets below and above
 line-sum :
@@ -33,8 +37,7 @@ line-sum :
     → w * s′ + scale * b ≡ w * s + scale * b′ → w * s ≤ w * v + ticks * ((whole - w) * below) → b ≤ b′
     → w * (x′ + below) ≤ w * (x + above) + whole * ((b′ - b) + 2 * below)
 line-sum w v v′ s s′ e x x′ b b′ below above part top late charged own early grows =
-    let whole-part : (w + (whole - w)) * below ≡ whole * below = ap (λ (n : ℕ). n * below) (add-sub-of-le part) in
-    let parts = add-mul w (whole - w) below in
+    let parts-below = parts w below part in
     let top-times = mul-le-mul-left w top in
     let late-times = mul-le-mul-left w late in
     omega arith
@@ -175,7 +178,7 @@ module _ (tree : Tree) (sound : Sound tree) (big : ℕ → ℕ) (wider : (j : �
   -- ── one step up the tree ──
 
   -- an inner row's taken child, if it has one
-  taken-child : (a : Rows) → Settled tree a → (p : ℕ) → Inner tree p → (t : ℕ) × Taken tree a p t
+  pub taken-child : (a : Rows) → Settled tree a → (p : ℕ) → Inner tree p → (t : ℕ) × Taken tree a p t
   taken-child a settled p inner = go (ℕ-discrete (head a p) 0)
     where
       go : Dec (head a p ≡ 0) → (t : ℕ) × Taken tree a p t

@@ -2,52 +2,39 @@
 -- Assumes nothing.
 use Prim.Native.Nat.{ℕ, zero, suc, pred, _+_, _*_, _-_, _≤_, _<_}
 use mathlib.Core.Path.{_≡_, refl, sym, _∙_, ap, subst}
-use mathlib.Core.Bool.{Bool, true, false}
+use mathlib.Core.Logic.{_⊎_, inl, inr}
+use mathlib.Core.Bool.{Bool, true, false, cond, _||_}
 use native.Mathlib.Decide.{ℕ-discrete}
-use native.Mathlib.Nat.{mul-add, mul-le-mul-left, mul-le-mul-right, add-sub-of-le, pos-of-ne-zero, le-refl}
+use native.Mathlib.Nat.{mul-le-mul-left, pos-of-ne-zero}
 use native.Mathlib.Omega.{arith}
-use lib.Dec.{ltb}
+use lib.Dec.{ltb, eqb}
 use borrow.Author.Tests.{ltb-false, eq-eqb, ne-eqb}
-use lib.IntN.{pos, _-ℤ_, pos-ne-negsuc}
+use lib.IntN.{ℤ, pos, _-ℤ_, pos-ne-negsuc}
 use Rattle.input.specs.Limits.{whole}
 use Rattle.input.specs.Classes.{Tree, parent, depth, share}
 use Rattle.input.specs.Events.{Events}
 use Rattle.rules.specs.Box.{fresh, bytes-of, held-by}
 use Rattle.rules.specs.Steps.{after}
 use Rattle.rules.specs.Outcome.{lag}
-use Rattle.rules.specs.Promise.{bytes-for, finished-in, Backlogged, Ratio, step-up, climbed, number, largest, Promised}
+use Rattle.rules.specs.Promise.{bytes-for, finished-in, Backlogged, Ratio, whole-over, step-up, climbed, line-most, largest, Promised}
 use Rattle.laws.specs.Sound.{Kid}
 use Rattle.laws.specs.History.{Accepted, largest-for, Keeps, Since}
 use Rattle.laws.proofs.tree.Paths.{its-parent, at-root, below-root, parent-is-inner}
-use Rattle.laws.proofs.tree.Trees.{share-whole}
 use Rattle.laws.proofs.event.Largest.{part-largest, accepted-wider}
 use Rattle.laws.proofs.event.Outset.{zeros-at}
 use Rattle.laws.proofs.event.Keeping.{busy-holds, kept}
 use Rattle.laws.proofs.run.History.{holds-held}
+use Rattle.laws.proofs.run.Sent.{line-counted}
 use Rattle.laws.proofs.share.Pace.{line}
 use Rattle.laws.proofs.share.Stretch.{head-at, stretch, marks-stay, wakes, bytes-in}
+use Rattle.laws.proofs.share.TwoPackets.{two-packets}
 
 -- ── in numbers ──
 
--- a step: from the sharp form with a share w and largest packets below, above and overall to the form with three largest packets
-step-sum :
-    (w x x′ own below above most : ℕ) → w ≤ whole → below ≤ most → above ≤ most → x ≤ x′
-    → w * (x′ + below) ≤ w * (x + 2 * above) + whole * (own + 2 * below)
-    → w * (x′ - x) ≤ whole * (own + 3 * most)
-step-sum w x x′ own below above most part low high grows sharper =
-    let bytes : w * (x + (x′ - x)) ≡ w * x′ = ap (λ (n : ℕ). w * n) (add-sub-of-le grows) in
-    let bytes-split = mul-add w x (x′ - x) in
-    let rest : w * (below + (most - below)) ≡ w * most = ap (λ (n : ℕ). w * n) (add-sub-of-le low) in
-    let rest-split = mul-add w below (most - below) in
-    let rest-part = mul-le-mul-right (most - below) part in
-    let above-part = mul-le-mul-left w high in
-    let most-part = mul-le-mul-right most part in
-    omega arith
-
--- and up: a bound on a row's bytes, as a ratio, gives one on its parent's
+-- up: a bound on a row's bytes, as a ratio, gives one on its parent's
 climb-sum :
-    (w above own most denominator numerator : ℕ) → w * above ≤ whole * (own + 3 * most) → own * denominator ≤ numerator
-    → above * (denominator * w) ≤ (numerator + 3 * most * denominator) * whole
+    (w above own most denominator numerator : ℕ) → w * above ≤ whole * (own + 2 * most) → own * denominator ≤ numerator
+    → above * (denominator * w) ≤ (numerator + 2 * most * denominator) * whole
 climb-sum w above own most denominator numerator stepped below =
     let times = mul-le-mul-left denominator stepped in
     omega arith
@@ -95,25 +82,23 @@ module _ (tree : Tree) (events : Events) (last : ℕ) (ok : Accepted tree events
       let small = mul-le-mul-left (share tree j) (first .heads-small p (inner .inside)) in
       omega arith
 
-  -- and in the form that the number on paper has
+  -- and in the form that the number has
   pub step :
       (p j m n : ℕ) → Kid tree p j → m ≤ n → n ≤ last → Keeps tree events j m n
       → share tree j * (bytes-of (after tree events n) p - bytes-of (after tree events m) p)
-      ≤ whole * ((bytes-of (after tree events n) j - bytes-of (after tree events m) j) + 3 * largest events last)
+      ≤ whole * ((bytes-of (after tree events n) j - bytes-of (after tree events m) j) + 2 * largest events last)
   step p j m n kid order earlier keeps =
-      step-sum (share tree j) (bytes-of (after tree events m) p) (bytes-of (after tree events n) p)
-      (bytes-of (after tree events n) j - bytes-of (after tree events m) j) (largest-for tree events j last) (largest-for tree events p last) (largest events last)
-      (share-whole (share tree j) (ok .sound .share-allowed j (kid .positive) (kid .inside)))
-      (part-largest tree events j last) (part-largest tree events p last) (stretch tree events last ok p j m n kid order earlier keeps .parent-grows)
-      (sharp p j m n kid order earlier keeps)
+      let stepped = two-packets tree events last ok p j m n kid order earlier keeps in
+      let most = part-largest tree events p last in
+      omega arith
 
   -- ── up the tree ──
 
   pub climb :
       (d k m n : ℕ) (q : Ratio) → k < tree .rows → depth tree k ≡ d → m ≤ n → n ≤ last → Keeps tree events k m n
       → (bytes-of (after tree events n) k - bytes-of (after tree events m) k) * q .denominator ≤ q .numerator
-      → (bytes-of (after tree events n) 0 - bytes-of (after tree events m) 0) * climbed d tree (largest events last) k q .denominator
-      ≤ climbed d tree (largest events last) k q .numerator
+      → (bytes-of (after tree events n) 0 - bytes-of (after tree events m) 0) * climbed d tree 2 (largest events last) k q .denominator
+      ≤ climbed d tree 2 (largest events last) k q .numerator
   unfolding climbed step-up
   climb zero k m n q inside deep order earlier keeps below =
       rw (at-root tree (ok .sound) k inside deep) at below
@@ -121,7 +106,7 @@ module _ (tree : Tree) (events : Events) (last : ℕ) (ok : Accepted tree events
       let positive = below-root tree (ok .sound) k d deep in
       let deeper = ok .sound .deeper k positive inside in
       let kid = its-parent tree (ok .sound) k positive inside in
-      climb d (parent tree k) m n (step-up (largest events last) (share tree k) q) (ok .sound .parent-row k positive inside) (omega arith) order earlier
+      climb d (parent tree k) m n (step-up 2 (largest events last) (whole-over (share tree k)) q) (ok .sound .parent-row k positive inside) (omega arith) order earlier
       (keeps-up k m n positive inside earlier keeps)
       (climb-sum (share tree k) (bytes-of (after tree events n) (parent tree k) - bytes-of (after tree events m) (parent tree k))
       (bytes-of (after tree events n) k - bytes-of (after tree events m) k) (largest events last) (q .denominator) (q .numerator)
@@ -158,10 +143,11 @@ module _ (tree : Tree) (events : Events) (last : ℕ) (ok : Accepted tree events
   -- the promise to any row, the root too, of which it says nothing new: for a stretch after each event of which the row holds a packet
   pub promised :
       (k a b : ℕ) → k < tree .rows → a ≤ b → b ≤ last → Backlogged tree events (after tree events last .order) k a b
-      → Promised tree events (after tree events last .order) (largest events last) k a b
-  unfolding Backlogged number
+      → Promised tree events (after tree events last .order) 2 (largest events last) k a b
+  unfolding Backlogged line-most
   promised k a b inside order earlier backlogged =
-      go (ℕ-discrete a b) (bytes-in tree events last ok a b k order earlier inside) (bytes-in tree events last ok a b 0 order earlier (ok .sound .some-rows))
+      rw (← line-counted tree events last ok a b)
+      (go (ℕ-discrete a b) (bytes-in tree events last ok a b k order earlier inside) (bytes-in tree events last ok a b 0 order earlier (ok .sound .some-rows)))
     where
       own : ℕ
       own = bytes-for tree events k (finished-in events (after tree events last .order) a b)
@@ -170,7 +156,7 @@ module _ (tree : Tree) (events : Events) (last : ℕ) (ok : Accepted tree events
       all = bytes-for tree events 0 (finished-in events (after tree events last .order) a b)
 
       bound : Ratio
-      bound = climbed (depth tree k) tree (largest events last) k (record { numerator = own; denominator = 1 })
+      bound = climbed (depth tree k) tree 2 (largest events last) k (record { numerator = own; denominator = 1 })
 
       go :
           Dec (a ≡ b) → bytes-of (after tree events b) k ≡ bytes-of (after tree events a) k + own
@@ -198,7 +184,7 @@ module _ (tree : Tree) (events : Events) (last : ℕ) (ok : Accepted tree events
       → (0 < held-by (after tree events n) r → Since tree events r n) → Since tree events r (suc n)
   backlog-on r n inside earlier holds (yes empty) before =
       let woken = wakes tree events last ok n r earlier inside empty holds in
-      (suc n, le-refl (suc n), now, woken .0 ∙ sym (woken .2 r), woken .1 ∙ sym (woken .2 (parent tree r)))
+      record { from = n; earlier = omega arith; empty = empty; keeps = now; own-from = woken .0; parent-from = woken .1 }
     where
       now : Keeps tree events r (suc n) (suc n)
       now i low high =
@@ -207,7 +193,14 @@ module _ (tree : Tree) (events : Events) (last : ℕ) (ok : Accepted tree events
   backlog-on r n inside earlier holds (no some) before =
       let since = before (pos-of-ne-zero some) in
       let marks = marks-stay tree events last ok n r earlier inside (pos-of-ne-zero some) in
-      (since .0, omega arith, on (since .0) (since .2), marks .0 ∙ since .3, marks .1 ∙ since .4)
+      record {
+        from = since .from;
+        earlier = omega arith;
+        empty = since .empty;
+        keeps = on (suc (since .from)) (since .keeps);
+        own-from = marks .0 ∙ since .own-from;
+        parent-from = marks .1 ∙ since .parent-from;
+      }
     where
       on : (m : ℕ) → Keeps tree events r m n → Keeps tree events r m (suc n)
       on m keeps i low high = pick (ℕ-discrete i (suc n))
@@ -216,29 +209,59 @@ module _ (tree : Tree) (events : Events) (last : ℕ) (ok : Accepted tree events
           pick (yes is) = rw is holds
           pick (no other) = keeps i low (omega arith)
 
-  -- a row that holds packets has held some since the moment from which its lag counts
+  -- a row that holds packets has a backlog
   pub backlog : (r n : ℕ) → r < tree .rows → n ≤ last → 0 < held-by (after tree events n) r → Since tree events r n
   unfolding after fresh
   backlog r zero inside earlier holds = let none = zeros-at r in absurd (omega arith)
   backlog r (suc n) inside earlier holds =
       backlog-on r n inside earlier holds (ℕ-discrete (held-by (after tree events n) r) 0) (backlog r n inside (omega arith))
 
-  pub lag-bound : (r n lagging : ℕ) → r < tree .rows → n ≤ last → lag tree (after tree events n) r ≡ pos lagging → lagging ≤ 3 * whole * largest events last
+  -- its lag, counted from its last empty moment
+  pub lag-counted :
+      (r n : ℕ) → 0 < r → 0 < held-by (after tree events n) r → (since : Since tree events r n)
+      → lag tree (after tree events n) r
+      ≡ pos (share tree r * (bytes-of (after tree events n) (parent tree r) - bytes-of (after tree events (since .from)) (parent tree r)))
+      -ℤ pos (whole * (bytes-of (after tree events n) r - bytes-of (after tree events (since .from)) r))
   unfolding lag
+  lag-counted r n positive holds since =
+      rw (
+        ne-eqb r 0 (λ root. omega arith),
+        ne-eqb (held-by (after tree events n) r) 0 (λ none. omega arith),
+        since .own-from,
+        since .parent-from,
+      )
+
+  -- the root, and a row that holds nothing
+  pub no-lag : (r n : ℕ) → (r ≡ 0) ⊎ (held-by (after tree events n) r ≡ 0) → lag tree (after tree events n) r ≡ pos 0
+  unfolding lag
+  no-lag r n (inl root) = rw (eq-eqb r 0 root)
+  no-lag r n (inr none) = rw (eq-eqb (held-by (after tree events n) r) 0 none) (go (eqb r 0) _)
+    where
+      go : (b : Bool) (x : ℤ) → cond (b || true) (pos 0) x ≡ pos 0
+      go true x = refl
+      go false x = refl
+
+  pub lag-bound : (r n lagging : ℕ) → r < tree .rows → n ≤ last → lag tree (after tree events n) r ≡ pos lagging → lagging ≤ 2 * whole * largest events last
   lag-bound r n lagging inside earlier is = go (ℕ-discrete r 0) (ℕ-discrete (held-by (after tree events n) r) 0)
     where
-      nothing : pos 0 ≡ pos lagging → lagging ≤ 3 * whole * largest events last
-      nothing zero-is = let none : 0 ≡ lagging = cc in omega arith
+      nothing : (r ≡ 0) ⊎ (held-by (after tree events n) r ≡ 0) → lagging ≤ 2 * whole * largest events last
+      nothing quiet =
+          let zero-is = sym (no-lag r n quiet) ∙ is in
+          let none : 0 ≡ lagging = cc in
+          omega arith
 
-      go : Dec (r ≡ 0) → Dec (held-by (after tree events n) r ≡ 0) → lagging ≤ 3 * whole * largest events last
-      go (yes root) held = nothing (rw (eq-eqb r 0 root) at is)
-      go (no row) (yes empty) = nothing (rw (ne-eqb r 0 row, eq-eqb (held-by (after tree events n) r) 0 empty) at is)
+      go : Dec (r ≡ 0) → Dec (held-by (after tree events n) r ≡ 0) → lagging ≤ 2 * whole * largest events last
+      go (yes root) held = nothing (inl root)
+      go (no row) (yes empty) = nothing (inr empty)
       go (no row) (no some) =
           let since = backlog r n inside earlier (pos-of-ne-zero some) in
+          let m = since .from in
           let kid = its-parent tree (ok .sound) r (pos-of-ne-zero row) inside in
-          let stepped = step (parent tree r) r (since .0) n kid (since .1) earlier (since .2) in
-          let difference = rw (ne-eqb r 0 row, ne-eqb (held-by (after tree events n) r) 0 some, since .3, since .4) at is in
-          let all = bytes-of (after tree events n) (parent tree r) - bytes-of (after tree events (since .0)) (parent tree r) in
-          let own = bytes-of (after tree events n) r - bytes-of (after tree events (since .0)) r in
+          let woken = wakes tree events last ok m r (omega arith) inside (since .empty) (since .keeps (suc m) (omega arith) (since .earlier)) in
+          let stepped =
+          rw (woken .2 (parent tree r), woken .2 r) at (step (parent tree r) r (suc m) n kid (since .earlier) earlier (since .keeps)) in
+          let all = bytes-of (after tree events n) (parent tree r) - bytes-of (after tree events m) (parent tree r) in
+          let own = bytes-of (after tree events n) r - bytes-of (after tree events m) r in
+          let difference = sym (lag-counted r n (pos-of-ne-zero row) (pos-of-ne-zero some) since) ∙ is in
           let short = lag-less (share tree r * all) (whole * own) lagging difference in
           omega arith

@@ -5,8 +5,9 @@ use mathlib.Core.Path.{_≡_, sym, _∙_}
 use native.Mathlib.Omega.{arith}
 use borrow.Author.Needs.{needs}
 use borrow.Author.Tests.{not-true, not-false}
-use Rattle.input.specs.Limits.{whole}
-use Rattle.sheet.specs.Paper.{over, limit, outgrown, raised, stepped}
+use Rattle.input.specs.Limits.{packets-a-step}
+use Rattle.rules.specs.Promise.{whole-over, step-up}
+use Rattle.sheet.specs.Paper.{limit, outgrown, stepped}
 use Rattle.sheet.proofs.Tests.{passed, failed}
 use Rattle.sheet.proofs.Figures.{denominator-some, stays-outgrown, over-nothing, steps-up, too-many}
 use Rattle.sheet.proofs.step.Statement.{statement}
@@ -17,7 +18,7 @@ outgrows :
     (c : tie.After-lowest)
     → limit
     ≤ c .before .before .before .before .args .from .numerator
-    + 3 * c .before .before .before .before .args .largest * c .before .before .before .before .args .from .denominator
+    + packets-a-step * c .before .before .before .before .args .largest * c .before .before .before .before .args .from .denominator
     → outgrown
     ≡ stepped (c .before .before .before .before .args .largest) (c .before .before .before .before .args .share)
     (c .before .before .before .before .args .from)
@@ -51,7 +52,7 @@ returns-3 : tie.Need-returns-3
 returns-3 c =
     let found = c .before .before in
     let args = found .before .before .before .before .before .args in
-    let large : limit ≤ 3 * args .largest * args .from .denominator =
+    let large : limit ≤ packets-a-step * args .largest * args .from .denominator =
     failed _ _ _ (found .product-fits .ensures) (not-true _ (c .before .if3 .taken)) in
     c .outgrown3 .ensures ∙ outgrows (found .before) (omega arith)
 
@@ -81,11 +82,11 @@ product-requires : tie.Need-product-requires
 product-requires c κs =
     let at = c .before .before .before .before .before .before in (
       at .before .before .before .before .pre (not-false _ (at .before .before .if1 .left)),
-      rw (at .lowest .ensures) (denominator-some (over whole _) (omega arith)),
+      rw (at .lowest .ensures) (denominator-some (whole-over _) (omega arith)),
     )
 
 returns-5 : tie.Need-returns-5
-unfolding raised
+unfolding step-up
 returns-5 c =
     let at = c .before .before .before .before .before .before .before in
     let args = at .before .before .before .before .args in

@@ -18,7 +18,7 @@ use Rattle.input.specs.Events.{count}
 use Rattle.rules.specs.Box.{Box}
 use Rattle.rules.specs.Steps.{after}
 use Rattle.rules.specs.Refused.{refused}
-use Rattle.rules.specs.Outcome.{Lent, Outcome, row-report, report-of, lag, lags-of, over, room-of, refusing, doing, outcome}
+use Rattle.rules.specs.Outcome.{Lent, Outcome, row-report, report-of, lag, lags-of, over, room-of, refusing, doing, outcome, Ran}
 use Rattle.rules.proofs.Results.{report-length, lags-length}
 
 -- ── slices ──
@@ -72,7 +72,13 @@ module _ (tree : Tree) (box : Box) where
 
 -- ── a done run ──
 
-module _ (lent : Lent) (done : outcome lent .answer .number ≡ 0) where
+-- an input that is not refused is done
+pub accepted-done :
+    (lent : Lent) (left : Outcome) → Ran lent left → refused (lent .table) (lent .events) (room-of lent) .number ≡ 0 → left .answer .number ≡ 0
+unfolding outcome doing
+accepted-done lent left ran none = rw (ran, eq-eqb (refused (lent .table) (lent .events) (room-of lent) .number) 0 none)
+
+module _ (lent : Lent) (left : Outcome) (ran : Ran lent left) (done : left .answer .number ≡ 0) where
   abbrev refusal : Refusal
   refusal = refused (lent .table) (lent .events) (room-of lent)
 
@@ -83,7 +89,7 @@ module _ (lent : Lent) (done : outcome lent .answer .number ≡ 0) where
   -- an answer 0 is given for an input that is not refused alone
   pub not-refused : refused (lent .table) (lent .events) (room-of lent) .number ≡ 0
   unfolding outcome refusing
-  not-refused = go (eqb (refusal .number) 0) refl done
+  not-refused = go (eqb (refusal .number) 0) refl (subst (λ (o : Outcome). o .answer .number ≡ 0) ran done)
     where
       go :
           (b : Bool) → eqb (refusal .number) 0 ≡ b → cond b (doing lent (tree-of (lent .table)) last) (refusing lent refusal) .answer .number ≡ 0
@@ -91,33 +97,33 @@ module _ (lent : Lent) (done : outcome lent .answer .number ≡ 0) where
       go true e answer = eqb-true (refusal .number) 0 e
       go false e answer = answer
 
-  done-outcome : outcome lent ≡ doing lent (tree-of (lent .table)) last
+  done-left : left ≡ doing lent (tree-of (lent .table)) last
   unfolding outcome
-  done-outcome = rw (eq-eqb (refusal .number) 0 not-refused)
+  done-left = ran ∙ rw (eq-eqb (refusal .number) 0 not-refused)
 
   -- the words of the results, where they stand in the lent slices
-  pub count-is : outcome lent .answer .count ≡ length (last .order)
+  pub count-is : left .answer .count ≡ length (last .order)
   unfolding doing
-  count-is = ap (λ (o : Outcome). o .answer .count) done-outcome
+  count-is = ap (λ (o : Outcome). o .answer .count) done-left
 
-  pub order-is : take (outcome lent .answer .count) (outcome lent .order) ≡ last .order
+  pub order-is : take (left .answer .count) (left .order) ≡ last .order
   unfolding doing
-  order-is = rw (done-outcome) (over-first (last .order) (lent .order))
+  order-is = rw (done-left) (over-first (last .order) (lent .order))
 
   pub word-is :
       (r i : ℕ) → r < tree-of (lent .table) .rows → i < report-words
-      → getD (outcome lent .report) (report-words * r + i) 0 ≡ getD (row-report (tree-of (lent .table)) last r) i 0
+      → getD (left .report) (report-words * r + i) 0 ≡ getD (row-report (tree-of (lent .table)) last r) i 0
   unfolding doing
   word-is r i inside word =
       let size = report-length (tree-of (lent .table)) last (tree-of (lent .table) .rows) in
-      rw (done-outcome)
+      rw (done-left)
       (over-at (report-of (tree-of (lent .table)) last (tree-of (lent .table) .rows)) (lent .report) (report-words * r + i) 0 (omega arith)
       ∙ report-at (tree-of (lent .table)) last (tree-of (lent .table) .rows) r i inside word)
 
-  pub lag-is : (r : ℕ) → r < tree-of (lent .table) .rows → getD (outcome lent .lags) r (pos 0) ≡ lag (tree-of (lent .table)) last r
+  pub lag-is : (r : ℕ) → r < tree-of (lent .table) .rows → getD (left .lags) r (pos 0) ≡ lag (tree-of (lent .table)) last r
   unfolding doing
   lag-is r inside =
       let size = lags-length (tree-of (lent .table)) last (tree-of (lent .table) .rows) in
-      rw (done-outcome)
+      rw (done-left)
       (over-at (lags-of (tree-of (lent .table)) last (tree-of (lent .table) .rows)) (lent .lags) r (pos 0) (omega arith)
       ∙ lags-at (tree-of (lent .table)) last (tree-of (lent .table) .rows) r inside)

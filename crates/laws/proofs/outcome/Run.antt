@@ -1,0 +1,193 @@
+-- The theorems on a run, said of the lent slices that it leaves: whatever was lent, where the answer's number is 0.
+-- Assumes nothing.
+use Prim.Native.Nat.{ℕ, _+_, _*_, _≤_, _<_}
+use mathlib.Core.Path.{_≡_, sym, _∙_, ap, subst}
+use mathlib.Core.Logic.{_≢_, _⊎_, inl, inr}
+use mathlib.Core.Bool.{Bool, true, false, cond, not}
+use mathlib.Core.List.{List}
+use native.Mathlib.Decide.{ℕ-discrete}
+use native.Mathlib.Omega.{arith}
+use lib.Dec.{eqb}
+use lib.ListN.{length, getD, take}
+use lib.IntN.{pos}
+use borrow.Author.Tests.{ne-eqb}
+use Rattle.input.specs.declared.Event.the-variants.{Arrival}
+use Rattle.input.specs.Limits.{report-words, whole, packets-a-step}
+use Rattle.input.specs.Classes.{Tree, tree-of, row-of}
+use Rattle.input.specs.Events.{Events, count, class-word, length-word, event}
+use Rattle.rules.specs.Box.{held-by}
+use Rattle.rules.specs.Steps.{after}
+use Rattle.rules.specs.Outcome.{Lent, Outcome, row-report, lag, room-of, Ran}
+use Rattle.rules.specs.Promise.{finish-count, arrived, largest, packets-for, bytes-for, finished, holds, Backlogged, line-most, Promised}
+use Rattle.laws.specs.Sound.{Sender}
+use Rattle.laws.specs.History.{Accepted, LagSince, arrivals-of, only-for}
+use Rattle.laws.specs.Shorter.{cut}
+use Rattle.laws.proofs.tree.Trees.{accepted}
+use Rattle.laws.proofs.event.Turns.{fewer}
+use Rattle.laws.proofs.run.History.{bytes-counted, held-counted, holds-held, order-grows, order-length, first-in-first-out, once}
+use Rattle.laws.proofs.run.Idle.{busy-is-held}
+use Rattle.laws.proofs.run.Sent.{order-arrived}
+use Rattle.laws.proofs.share.Promise.{promised, no-lag, lag-bound}
+use Rattle.laws.proofs.share.LineMost.{denominator-some, more-packets}
+use Rattle.laws.proofs.share.Lags.{lag-since}
+use Rattle.laws.proofs.outcome.Shorter.{first-last, shorter-passes}
+use Rattle.laws.proofs.outcome.Results.{accepted-done, not-refused, count-is, order-is, word-is, lag-is}
+
+-- the packets that a run put on the line, in their order
+abbrev pub sent : Outcome → List ℕ
+sent left = take (left .answer .count) (left .order)
+
+-- word i of row r in the report that it left
+abbrev pub reported : Outcome → ℕ → ℕ → ℕ
+reported left r i = getD (left .report) (report-words * r + i) 0
+
+-- one for a busy line
+line-count : (b : Bool) (n size : ℕ) → size ≡ n + cond (not b) 1 0 → size ≡ n + cond b 0 1
+line-count true n size is = is
+line-count false n size is = is
+
+module _ (lent : Lent) (left : Outcome) (ran : Ran lent left) (done : left .answer .number ≡ 0) where
+  abbrev tree : Tree
+  tree = tree-of (lent .table)
+
+  abbrev events : Events
+  events = lent .events
+
+  abbrev all : ℕ
+  all = count (lent .events)
+
+  ok : Accepted tree events all
+  ok = accepted (lent .table) (lent .events) (room-of lent) (not-refused lent left ran done)
+
+  -- ── where the box's words stand ──
+
+  order-left : sent left ≡ after tree events all .order
+  order-left = order-is lent left ran done
+
+  held-left : (r : ℕ) → r < tree .rows → reported left r 4 ≡ held-by (after tree events all) r
+  unfolding row-report
+  held-left r inside = word-is lent left ran done r 4 inside (omega arith)
+
+  lag-left : (r : ℕ) → r < tree .rows → getD (left .lags) r (pos 0) ≡ lag tree (after tree events all) r
+  lag-left = lag-is lent left ran done
+
+  -- ── the order ──
+
+  pub count-sent : length (sent left) ≡ left .answer .count
+  count-sent = ap length order-left ∙ sym (count-is lent left ran done)
+
+  -- as many are finished as there were finishes; one more is on the line exactly where the report has packets held for the root
+  pub finished-sent : left .answer .count ≡ finish-count events all + cond (eqb (reported left 0 4) 0) 0 1
+  finished-sent =
+      rw (held-left 0 (ok .sound .some-rows), count-is lent left ran done)
+      (line-count (eqb (held-by (after tree events all) 0) 0) _ _ (rw (busy-is-held tree events all ok) at (order-length tree events all ok)))
+
+  -- each word names an arrival of the list, for a sending class
+  pub sent-arrived :
+      (i packet : ℕ) → i < left .answer .count → getD (sent left) i 0 ≡ packet
+      → (packet < all) × (event events packet ≡ Arrival (class-word events packet) (length-word events packet))
+      × Sender tree (row-of tree (class-word events packet))
+  sent-arrived i packet inside is =
+      let size = count-is lent left ran done in
+      rw (← is, order-left) (order-arrived tree events all ok i (omega arith))
+
+  -- no packet is sent twice
+  pub sent-once : (i j : ℕ) → i < j → j < left .answer .count → getD (sent left) i 0 ≢ getD (sent left) j 0
+  sent-once i j before inside =
+      let size = count-is lent left ran done in
+      rw order-left (once tree events all i j ok before (omega arith))
+
+  -- what is sent of a class is the first of its arrivals, in their order
+  pub sent-in-turn :
+      (k : ℕ) → Sender tree k → only-for tree events k (sent left) ≡ take (length (only-for tree events k (sent left))) (arrivals-of tree events k all)
+  sent-in-turn k sender = rw order-left (first-in-first-out tree events all k ok sender)
+
+  -- ── after every event: the run of the first n events ──
+
+  module _ (n : ℕ) (earlier : n ≤ all) (shorter : Outcome) (ran-shorter : Ran (cut n lent) shorter) where
+    pub cut-done : shorter .answer .number ≡ 0
+    unfolding cut room-of
+    cut-done =
+        accepted-done (cut n lent) shorter ran-shorter
+        (shorter-passes (lent .table) events n earlier (room-of lent) (not-refused lent left ran done))
+
+    cut-count : shorter .answer .count ≡ length (after tree events n .order)
+    unfolding cut
+    cut-count = count-is (cut n lent) shorter ran-shorter cut-done ∙ rw (first-last events n tree earlier)
+
+    -- its order is where the whole order begins
+    pub cut-sent : sent shorter ≡ take (shorter .answer .count) (sent left)
+    unfolding cut
+    cut-sent =
+        order-is (cut n lent) shorter ran-shorter cut-done
+        ∙ rw (first-last events n tree earlier, cut-count, order-left) (sym (order-grows tree events n all earlier ok))
+
+    -- as many are finished by then as there were finishes; one more is on the line exactly where the root holds a packet
+    pub finished-by-then : shorter .answer .count ≡ finish-count events n + cond (eqb (holds tree events (sent left) 0 n) 0) 0 1
+    finished-by-then =
+        let so-far = fewer tree events n all earlier ok in
+        rw (cut-count, order-left, holds-held tree events n all 0 earlier ok (ok .sound .some-rows))
+        (line-count (eqb (held-by (after tree events n) 0) 0) _ _ (rw (busy-is-held tree events n so-far) at (order-length tree events n so-far)))
+
+    -- the line is never idle: nothing is held, or fewer packets are finished than were sent
+    pub never-idle-after : (holds tree events (sent left) 0 n ≡ 0) ⊎ (finish-count events n < shorter .answer .count)
+    never-idle-after = go (ℕ-discrete (holds tree events (sent left) 0 n) 0)
+      where
+        go : Dec (holds tree events (sent left) 0 n ≡ 0) → (holds tree events (sent left) 0 n ≡ 0) ⊎ (finish-count events n < shorter .answer .count)
+        go (yes none) = inl none
+        go (no some) = inr (omega (arith, rw (ne-eqb (holds tree events (sent left) 0 n) 0 some) at finished-by-then))
+
+  -- ── the report ──
+
+  pub bytes-reported : (r : ℕ) → r < tree .rows → reported left r 0 ≡ bytes-for tree events r (finished events (sent left) all)
+  unfolding row-report
+  bytes-reported r inside =
+      word-is lent left ran done r 0 inside (omega arith) ∙ rw order-left (bytes-counted tree events all all r (omega arith) ok inside)
+
+  pub held-reported :
+      (r : ℕ) → r < tree .rows → arrived tree events r all ≡ packets-for tree events r (finished events (sent left) all) + reported left r 4
+  held-reported r inside = rw (held-left r inside, order-left) (held-counted tree events all all r (omega arith) ok inside)
+
+  -- ── the promise on shares ──
+
+  -- for any row that holds a packet after each event of a stretch, a class or the root, of which it says nothing new: two largest packets
+  -- a step are enough
+  pub share-is-two-packets :
+      (k a b : ℕ) → k < tree .rows → a ≤ b → b ≤ all → Backlogged tree events (sent left) k a b
+      → Promised tree events (sent left) 2 (largest events all) k a b
+  share-is-two-packets k a b inside order within =
+      subst (λ (order : List ℕ). Backlogged tree events order k a b → Promised tree events order 2 (largest events all) k a b) (sym order-left)
+      (promised tree events all ok k a b inside order within)
+
+  -- the number that is asked for
+  pub share-is-a-number :
+      (k a b : ℕ) → k < tree .rows → a ≤ b → b ≤ all → Backlogged tree events (sent left) k a b
+      → Promised tree events (sent left) packets-a-step (largest events all) k a b
+  share-is-a-number k a b inside order within backlogged =
+      more-packets tree events (sent left) 2 packets-a-step (largest events all) k a b (omega arith)
+      (share-is-two-packets k a b inside order within backlogged)
+
+  -- it is a number: its denominator is above 0
+  pub share-denominator : (packets largest k own : ℕ) → k < tree .rows → 0 < line-most tree packets largest k own .denominator
+  share-denominator packets largest = denominator-some tree (ok .sound) packets largest
+
+  -- ── lags ──
+
+  -- while a class holds a packet its lag counts from the event that ended its last empty moment
+  pub lag-counts-since :
+      (r : ℕ) → 0 < r → r < tree .rows → 0 < reported left r 4 → LagSince tree events (sent left) r all (getD (left .lags) r (pos 0))
+  lag-counts-since r positive inside holding =
+      rw (lag-left r inside, order-left) (lag-since tree events all ok r positive inside (rw (held-left r inside) at holding))
+
+  -- the root, and a class that holds nothing, have none
+  pub lag-none : (r : ℕ) → r < tree .rows → (r ≡ 0) ⊎ (reported left r 4 ≡ 0) → getD (left .lags) r (pos 0) ≡ pos 0
+  lag-none r inside quiet = lag-left r inside ∙ no-lag tree events all ok r all (rw (held-left r inside) at quiet)
+
+  -- no lag is above two largest packets, so none above the three that are promised
+  pub no-lag-above-two :
+      (r lagging : ℕ) → r < tree .rows → getD (left .lags) r (pos 0) ≡ pos lagging → lagging ≤ 2 * whole * largest events all
+  no-lag-above-two r lagging inside is = lag-bound tree events all ok r all lagging inside (omega arith) (sym (lag-left r inside) ∙ is)
+
+  pub no-lag-above :
+      (r lagging : ℕ) → r < tree .rows → getD (left .lags) r (pos 0) ≡ pos lagging → lagging ≤ packets-a-step * whole * largest events all
+  no-lag-above r lagging inside is = let two = no-lag-above-two r lagging inside is in omega arith
