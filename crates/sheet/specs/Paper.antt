@@ -53,7 +53,7 @@ fitting q = elim (ltb (q .numerator) limit && ltb (q .denominator) limit) [ true
 unfoldable pub stepped : ℕ → ℕ → Figure → Figure
 stepped largest share from =
     elim (from .fits && not (eqb share 0)) [
-      true ↦ fitting (step-up packets-a-step largest (lowest (whole-over share)) (ratio-of from))
+      | true ↦ fitting (step-up packets-a-step largest (lowest (whole-over share)) (ratio-of from))
       | false ↦ outgrown
     ]
 

@@ -3,7 +3,7 @@
 use Prim.Native.Nat.{ℕ, _+_, _*_, _-_, _≤_, _<_, max}
 use mathlib.Core.Path.{_≡_, refl, sym, _∙_, ap, subst}
 use mathlib.Core.Logic.{_≢_, _⊎_, inl, inr}
-use native.Mathlib.Nat.{mul-add, add-mul, mul-left-comm, mul-zero, mul-le-mul-left}
+use native.Mathlib.Nat.{mul-add, mul-left-comm, mul-zero, mul-le-mul-left}
 use native.Mathlib.Decide.{ℕ-discrete, decLe}
 use native.Mathlib.Omega.{arith}
 use lib.Dec.{eqb}
@@ -19,7 +19,7 @@ use Rattle.laws.specs.Level.{Mode, idle, waits, taken, Due, Behind}
 use Rattle.laws.specs.Kept.{weight, spare, mode, Taken, none, one, Ahead, Balanced}
 use Rattle.laws.proofs.path.Heads.{same-row}
 use Rattle.laws.proofs.tree.Paths.{one-child}
-use Rattle.laws.proofs.tree.Trees.{share-whole, charge-exact, charge-covers}
+use Rattle.laws.proofs.tree.Trees.{share-whole, share-rest, charge-exact, charge-covers}
 use Rattle.laws.proofs.level.Balance.{Apart, zero-behind, same-behind, wake-behind, renew-behind, drop-behind, pick-behind, due-behind}
 use Rattle.laws.proofs.level.Modes.{Waiting, shares-whole, weight-kid, not-root, mode-taken, mode-waits, mode-idle, mode-says, mode-same}
 
@@ -169,8 +169,7 @@ module _ (tree : Tree) (sound : Sound tree) (big : ℕ → ℕ) (wider : (j : �
           let ends = mul-add w (start b k) (charge l w) in
           let passed = mul-add w (pick .raised) (ticks * l) in
           let own = mul-left-comm w ticks l in
-          let rest = add-mul (whole - w) w l in
-          let all : (whole - w + w) * l ≡ whole * l = ap (λ (x : ℕ). x * l) (omega arith) in
+          let parts = share-rest w l fits in
           let bounded = mul-le-mul-left (whole - w) (small k (kid .inside)) in
           let began = mul-le-mul-left w (pick .in-time) in
           rw (after .tagged k (kid .positive) (kid .inside) (pick .waiting), pick .passes) (omega arith)

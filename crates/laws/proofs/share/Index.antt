@@ -2,10 +2,10 @@
 -- finish of a packet of its own, at every level of any tree.
 -- Assumes nothing.
 use Prim.Native.Nat.{ℕ, suc, _+_, _*_, _-_, _≤_, _<_}
-use mathlib.Core.Path.{_≡_, refl, sym, _∙_, ap}
+use mathlib.Core.Path.{_≡_, refl, sym, _∙_}
 use mathlib.Core.Logic.{_≢_, _⊎_, inl, inr}
 use mathlib.Core.Bool.{Bool, true, false}
-use native.Mathlib.Nat.{add-mul, mul-add, mul-sub, mul-left-comm, mul-le-mul-left}
+use native.Mathlib.Nat.{mul-add, mul-sub, mul-left-comm, mul-le-mul-left}
 use native.Mathlib.Omega.{arith}
 use Rattle.input.specs.Limits.{ticks, whole, scale}
 use Rattle.input.specs.Shares.{charge}
@@ -20,7 +20,7 @@ use Rattle.laws.specs.Kept.{Kept, Ahead}
 use Rattle.laws.specs.History.{Accepted, largest-for, Keeps}
 use Rattle.laws.specs.Line.{line-class}
 use Rattle.laws.proofs.tree.Paths.{parent-is-inner, parent-within}
-use Rattle.laws.proofs.tree.Trees.{share-whole, charge-exact}
+use Rattle.laws.proofs.tree.Trees.{share-whole, share-rest, charge-exact}
 use Rattle.laws.proofs.level.Modes.{not-root}
 use Rattle.laws.proofs.level.Levels.{arrival-ready, departure-ready}
 use Rattle.laws.proofs.event.Turns.{class-at, turn}
@@ -198,8 +198,7 @@ module _ (tree : Tree) (events : Events) (last : ℕ) (ok : Accepted tree events
       let left-ticks = mul-left-comm w ticks p₁ in
       let right-ticks = mul-left-comm w ticks p₀ in
       let most = share-whole w (sound .share-allowed k (kid .positive) (kid .inside)) in
-      let rest : whole ≡ (whole - w) + w = omega arith in
-      let own-parts : whole * own ≡ (whole - w) * own + w * own = ap (λ (x : ℕ). x * own) rest ∙ add-mul (whole - w) w own in
+      let own-parts = share-rest w own most in
       let goal-parts = mul-add w (p₁ - p₀) own in
       let finished-parts = mul-sub w p₁ p₀ in
       omega arith

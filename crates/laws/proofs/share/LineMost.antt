@@ -1,6 +1,6 @@
 -- The promise's number: its denominator is above 0, and it grows with the packets a step, the largest packet and the row's own bytes.
 -- Assumes nothing.
-use Prim.Native.Nat.{ℕ, zero, suc, _+_, _*_, _≤_, _<_}
+use Prim.Native.Nat.{ℕ, zero, suc, _*_, _≤_, _<_}
 use mathlib.Core.Path.{_≡_, refl, ap}
 use mathlib.Core.List.{List}
 use native.Mathlib.Nat.{mul-le-mul-right, mul-pos, le-refl, le-trans}

@@ -1,11 +1,11 @@
 -- Own pace and whole pace over one event, and the line on which every number rests: one step up the tree between two moments.
 -- Assumes nothing.
 use Prim.Native.Nat.{ℕ, suc, _+_, _*_, _-_, _≤_, _<_}
-use mathlib.Core.Path.{_≡_, refl, sym, _∙_, ap}
+use mathlib.Core.Path.{_≡_, refl, sym, _∙_}
 use mathlib.Core.Logic.{_≢_, _⊎_, inl, inr}
 use mathlib.Core.Bool.{Bool, true, false, true≢false}
 use native.Mathlib.Decide.{ℕ-discrete}
-use native.Mathlib.Nat.{mul-add, add-mul, add-sub-of-le, mul-le-mul-left}
+use native.Mathlib.Nat.{mul-add, mul-le-mul-left}
 use native.Mathlib.Omega.{arith}
 use Rattle.input.specs.Limits.{ticks, whole, scale}
 use Rattle.input.specs.Shares.{charge}
@@ -21,14 +21,10 @@ use Rattle.laws.specs.Pace.{OwnPace, WholePace, Paced}
 use Rattle.laws.specs.Line.{line-class}
 use Rattle.laws.proofs.path.Tests.{cond-least}
 use Rattle.laws.proofs.tree.Paths.{its-parent, parent-is-inner, parent-within, one-child}
-use Rattle.laws.proofs.tree.Trees.{charge-exact, share-whole}
+use Rattle.laws.proofs.tree.Trees.{charge-exact, share-whole, share-rest}
 use Rattle.laws.proofs.level.Levels.{not-behind}
 use Rattle.laws.proofs.event.OneEvent.{arrival-at, arrival-bytes, line-sender, departure-on, departure-off, departure-bytes, bytes-on, bytes-off}
 use Rattle.laws.proofs.event.Keeping.{holds-head, departure-kept}
-
--- a share and what is left of the whole
-pub parts : (w x : ℕ) → w ≤ whole → w * x + (whole - w) * x ≡ whole * x
-parts w x part = sym (add-mul w (whole - w) x) ∙ ap (λ (n : ℕ). n * x) (add-sub-of-le part)
 
 -- the line in numbers: a share w, a virtual time v, the bytes finished and taken x, a start s, a charge e, bytes b, each at the first and
 -- at the second moment, and the largest packets below and above
@@ -37,7 +33,7 @@ line-sum :
     → w * s′ + scale * b ≡ w * s + scale * b′ → w * s ≤ w * v + ticks * ((whole - w) * below) → b ≤ b′
     → w * (x′ + below) ≤ w * (x + above) + whole * ((b′ - b) + 2 * below)
 line-sum w v v′ s s′ e x x′ b b′ below above part top late charged own early grows =
-    let parts-below = parts w below part in
+    let parts = share-rest w below part in
     let top-times = mul-le-mul-left w top in
     let late-times = mul-le-mul-left w late in
     omega arith

@@ -2,7 +2,7 @@
 -- and from there what the parent finishes between two moments.
 -- Assumes nothing.
 use Prim.Native.Nat.{ℕ, _+_, _*_, _-_, _≤_, _<_}
-use mathlib.Core.Path.{_≡_, sym, _∙_, ap, subst}
+use mathlib.Core.Path.{_≡_, sym, ap, subst}
 use mathlib.Core.Logic.{_≢_, inr}
 use native.Mathlib.Nat.{mul-add, mul-le-mul-left, mul-left-comm, add-sub-of-le, le-refl}
 use native.Mathlib.Decide.{ℕ-discrete}
@@ -20,12 +20,12 @@ use Rattle.laws.specs.Level.{Mode, waits, demand, Behind}
 use Rattle.laws.specs.Kept.{Kept, Taken, none as nobody, one as somebody, Balanced, Ahead, weight, spare, mode}
 use Rattle.laws.specs.History.{Accepted, largest-for, Keeps}
 use Rattle.laws.proofs.tree.Paths.{parent-is-inner}
-use Rattle.laws.proofs.tree.Trees.{charge-exact, share-whole}
+use Rattle.laws.proofs.tree.Trees.{charge-exact, share-whole, share-rest}
 use Rattle.laws.proofs.level.Modes.{not-root, mode-waits, weight-kid}
 use Rattle.laws.proofs.event.Largest.{parts-largest, accepted-wider}
 use Rattle.laws.proofs.event.Holding.{sum-term}
 use Rattle.laws.proofs.event.Keeping.{kept}
-use Rattle.laws.proofs.share.Pace.{parts, taken-child, finishes-late}
+use Rattle.laws.proofs.share.Pace.{taken-child, finishes-late}
 use Rattle.laws.proofs.share.Stretch.{head-at, stretch}
 
 -- ── in numbers: a share w, a virtual time v, a start s, a charge e for a packet of length l, and the largest packet ──
@@ -36,8 +36,8 @@ behind-waiting :
 behind-waiting w v s e l most part small cost behind =
     let times = mul-le-mul-left w behind in
     let rest = mul-le-mul-left (whole - w) small in
-    let parts-own = parts w l part in
-    let parts-most = parts w most part in
+    let parts-own = share-rest w l part in
+    let parts-most = share-rest w most part in
     let cost-times : w * (w * e) ≡ w * (scale * l) = ap (λ (n : ℕ). w * n) cost in
     omega arith
 
@@ -47,8 +47,8 @@ behind-taken :
 behind-taken w v s e l most part small cost behind =
     let times = mul-le-mul-left w behind in
     let rest = mul-le-mul-left (whole - w) small in
-    let parts-own = parts w l part in
-    let parts-most = parts w most part in
+    let parts-own = share-rest w l part in
+    let parts-most = share-rest w most part in
     omega arith
 
 -- h is the length of the parent's head
@@ -58,7 +58,7 @@ ahead-waiting :
 ahead-waiting w v s h own most part small low ahead =
     let rest = mul-le-mul-left (whole - w) small in
     let heads = mul-le-mul-left w low in
-    let parts-most = parts w most part in
+    let parts-most = share-rest w most part in
     omega arith
 
 -- with the parent's bytes x and the child's bytes b, each at the first and at the second moment

@@ -1,12 +1,12 @@
 -- A table and an event list that are not refused: what follows from that.
 -- Assumes nothing.
-use Prim.Native.Nat.{ℕ, zero, suc, _+_, _*_, _/_, _≤_, _<_}
+use Prim.Native.Nat.{ℕ, zero, suc, _+_, _*_, _-_, _/_, _≤_, _<_}
 use mathlib.Core.Path.{_≡_, refl, sym, _∙_, ap, subst}
 use mathlib.Core.Logic.{_≢_}
 use mathlib.Core.Bool.{Bool, true, false, cond, not, _||_}
 use mathlib.Core.List.{List, [], _∷_}
 use mathlib.Mathlib.Data.Bool.Basic.{or-eq-false-eq-eq-false-and-eq-false as or-is-false}
-use native.Mathlib.Nat.{div-add-mod, mul-left-comm, mul-comm}
+use native.Mathlib.Nat.{div-add-mod, add-mul, add-sub-of-le, mul-left-comm, mul-comm}
 use native.Mathlib.Decide.{ℕ-discrete}
 use native.Mathlib.Omega.{arith}
 use lib.Dec.{T, ltb, eqb}
@@ -54,6 +54,10 @@ charge-close w l ok =
     let exact = charge-exact w l ok in
     let positive = share-positive w ok in
     omega arith
+
+-- a share and what is left of the whole
+pub share-rest : (w x : ℕ) → w ≤ whole → w * x + (whole - w) * x ≡ whole * x
+share-rest w x part = sym (add-mul w (whole - w) x) ∙ ap (λ (n : ℕ). n * x) (add-sub-of-le part)
 
 -- ── no refusal ──
 
