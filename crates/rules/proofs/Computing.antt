@@ -1,4 +1,4 @@
--- The run and the promise with all that they are made of: a proof that names `computed` on its `unfolding` line can compute them.
+-- The run and the promise with all that they are made of: a proof that names `computing` on its `unfolding` line can compute them.
 -- Assumes nothing.
 use Rattle.input.specs.Shares.{allowed, cost, charge}
 use Rattle.input.specs.Classes.{place-of, earlier, parent-of, zeros, with-row, read, tree-of, row-of, child, has-child, sends, children-share}
@@ -11,7 +11,7 @@ use Rattle.rules.specs.Outcome.{Lent, Outcome, outcome, row-report, repo
 use Rattle.rules.specs.Promise
 use Rattle.rules.specs.Worked
 
-unfoldable pub computed : Lent → Outcome
+unfoldable pub computing : Lent → Outcome
 unfolding allowed cost charge place-of earlier parent-of zeros with-row read tree-of row-of child has-child sends children-share
     decode event fresh has-head
     Steps.with-head Steps.with-virtual Steps.charged Steps.next-start Steps.new-head Steps.lesser Steps.least Steps.waits Steps.eligible
@@ -23,5 +23,5 @@ unfolding allowed cost charge place-of earlier parent-of zeros with-row read tre
     outcome row-report report-of lag lags-of over room-of refusing doing
     Promise.path-has Promise.within Promise.for-part Promise.one-finish Promise.one-arrival Promise.finish-count Promise.arrived Promise.largest
     Promise.packets-for Promise.bytes-for Promise.line-bytes Promise.finished Promise.finished-in Promise.holds Promise.step-up Promise.climbed Promise.line-most
-    Worked.row Worked.packet Worked.finish Worked.lend
-computed lent = outcome lent
+    Worked.row Worked.packet Worked.finish Worked.lend Worked.found Worked.halves
+computing lent = outcome lent

@@ -1,11 +1,11 @@
--- The worked runs: twelve of the rules' own, P1 to P12, and two that tell easy wrong turns from the rules. Each has its input
--- and what its outcome must be; proofs/Worked.antt computes them all.
+-- The rules' own worked runs, P1 to P12, and the form of a worked run: its input, and what its outcome must be.
 use Prim.Native.Nat.{ℕ, _+_, _*_}
+use mathlib.Core.Path.{_≡_}
 use mathlib.Core.List.{List, [], _∷_, _++_, map}
 use lib.ListN.{length, getD, take, drop, replicate}
 use lib.IntN.{ℤ, pos, negsuc}
 use Rattle.input.specs.Limits.{report-words}
-use Rattle.rules.specs.Outcome.{Lent, Outcome}
+use Rattle.rules.specs.Outcome.{Lent, Outcome, outcome}
 
 -- ── inputs ──
 
@@ -89,6 +89,10 @@ found outcome (Word r i word) = Word r i (getD (outcome .report) (report-words *
 pub record Run : Type 0 where
   pub lent : Lent
   pub facts : List Fact
+
+-- asked of its outcome, each fact of each run comes back as it stands
+abbrev pub ComeOut : List Run → Type 0
+ComeOut runs = map (λ (run : Run). map (found (outcome (run .lent))) (run .facts)) runs ≡ map (λ (run : Run). run .facts) runs
 
 -- ── the runs ──
 
@@ -204,30 +208,5 @@ p11 = record { lent = lend halves (finish ∷ []); facts = Answers 14 0 0 0 ∷ 
 unfoldable pub p12 : Run
 p12 = record { lent = lend halves (packet 10 2049 ∷ []); facts = Answers 13 0 0 0 ∷ [] }
 
--- P1 with short packets for class 10: the least finish alone would send class 10 twice running
-unfoldable pub not-eligible : Run
-not-eligible =
-    record {
-      lent = lend halves (packet 10 10 ∷ packet 20 100 ∷ packet 10 10 ∷ finish ∷ finish ∷ finish ∷ []);
-      facts = Answers 0 0 0 3 ∷ Order (0 ∷ 1 ∷ 2 ∷ 7 ∷ 7 ∷ 7 ∷ 7 ∷ []) ∷ [];
-    }
-
--- class 10 falls behind while class 20's long packet is sent; its last packet still starts at its own finish, 2 · 16800, and
--- not at the virtual time, which is then 1737120
-unfoldable pub behind : Run
-behind =
-    record {
-      lent =
-          lend halves
-          (packet 10 10 ∷ packet 10 10 ∷ packet 10 10 ∷ packet 20 2048 ∷ finish ∷ finish ∷ finish ∷ finish ∷ []);
-      facts =
-          Answers 0 0 0 4
-          ∷ Order (0 ∷ 3 ∷ 1 ∷ 2 ∷ 7 ∷ 7 ∷ 7 ∷ 7 ∷ 7 ∷ [])
-          ∷ RowReport 0 (2078 ∷ 0 ∷ 0 ∷ 1745520 ∷ 0 ∷ [])
-          ∷ RowReport 1 (30 ∷ 33600 ∷ 50400 ∷ 0 ∷ 0 ∷ [])
-          ∷ RowReport 2 (2048 ∷ 8400 ∷ 3449040 ∷ 0 ∷ 0 ∷ [])
-          ∷ [];
-    }
-
 unfoldable pub runs : List Run
-runs = p1 ∷ p2 ∷ p3 ∷ p4 ∷ p5 ∷ p6 ∷ p7 ∷ p8 ∷ p9 ∷ p10 ∷ p11 ∷ p12 ∷ not-eligible ∷ behind ∷ []
+runs = p1 ∷ p2 ∷ p3 ∷ p4 ∷ p5 ∷ p6 ∷ p7 ∷ p8 ∷ p9 ∷ p10 ∷ p11 ∷ p12 ∷ []

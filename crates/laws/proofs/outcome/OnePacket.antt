@@ -14,7 +14,7 @@ use Rattle.input.specs.Events.{Events, count}
 use Rattle.rules.specs.Outcome.{Lent, outcome}
 use Rattle.rules.specs.Promise.{largest, bytes-for, line-bytes, finished-in, holds, Backlogged, Ratio, line-most, Promised}
 use Rattle.rules.specs.Worked.{row, packet, finish, lend}
-use Rattle.rules.proofs.Computing.{computed}
+use Rattle.rules.proofs.Computing.{computing}
 use Rattle.laws.proofs.outcome.Run.{sent}
 
 -- ── a backlog, tested ──
@@ -66,7 +66,7 @@ not-below x y passes below = let above = ltb-true y x passes in omega arith
 pub one-is-not-enough :
     (outcome passed-by .answer .number ≡ 0) × Backlogged (tree passed-by) (passed-by .events) (sent (outcome passed-by)) 1 4 7
     × (Promised (tree passed-by) (passed-by .events) (sent (outcome passed-by)) 1 (largest-of passed-by) 1 4 7 → ⊥)
-unfolding computed holding passed-by
+unfolding computing holding passed-by
 one-is-not-enough = (refl, backlogged (tree passed-by) (passed-by .events) (sent (outcome passed-by)) 1 4 3 refl, not-below _ _ refl)
 
 -- ── nineteen tenths of a packet ──
@@ -96,6 +96,6 @@ pub nineteen-tenths-are-not-enough :
     (outcome passed-longer .answer .number ≡ 0)
     × Backlogged (tree passed-longer) (passed-longer .events) (sent (outcome passed-longer)) 1 28 51
     × (tenths 19 1 28 51 .numerator < 10 * line-bytes (passed-longer .events) (finished-by passed-longer 28 51) * tenths 19 1 28 51 .denominator)
-unfolding computed holding passed-longer
+unfolding computing holding passed-longer
 nineteen-tenths-are-not-enough =
     (refl, backlogged (tree passed-longer) (passed-longer .events) (sent (outcome passed-longer)) 1 28 23 refl, ltb-true _ _ refl)

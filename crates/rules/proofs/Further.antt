@@ -1,0 +1,10 @@
+-- The further worked runs come out of the definitions: one statement over the whole list, proved by computing it.
+-- Assumes nothing.
+use mathlib.Core.Path.{refl}
+use Rattle.rules.specs.Worked.{ComeOut}
+use Rattle.rules.specs.Further
+use Rattle.rules.proofs.Computing.{computing}
+
+pub further : ComeOut Further.runs
+unfolding computing Further.not-eligible Further.behind Further.inner Further.untouched Further.runs
+further = refl

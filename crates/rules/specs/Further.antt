@@ -1,0 +1,70 @@
+-- Further worked runs, which tell wrong turns from the rules where P1 to P12 do not.
+use mathlib.Core.List.{List, [], _∷_, _++_}
+use lib.ListN.{replicate}
+use lib.IntN.{pos, negsuc}
+use Rattle.rules.specs.Worked.{Run, Answers, Order, Report, Lags, Working, RowReport, row, packet, finish, lend, halves}
+
+-- P1 with short packets for class 10: the least finish alone would send class 10 twice running
+unfoldable pub not-eligible : Run
+not-eligible =
+    record {
+      lent = lend halves (packet 10 10 ∷ packet 20 100 ∷ packet 10 10 ∷ finish ∷ finish ∷ finish ∷ []);
+      facts = Answers 0 0 0 3 ∷ Order (0 ∷ 1 ∷ 2 ∷ 7 ∷ 7 ∷ 7 ∷ 7 ∷ []) ∷ [];
+    }
+
+-- class 10 falls behind while class 20's long packet is sent; its last packet still starts at its own finish, 2 · 16800, and
+-- not at the virtual time, which is then 1737120
+unfoldable pub behind : Run
+behind =
+    record {
+      lent =
+          lend halves
+          (packet 10 10 ∷ packet 10 10 ∷ packet 10 10 ∷ packet 20 2048 ∷ finish ∷ finish ∷ finish ∷ finish ∷ []);
+      facts =
+          Answers 0 0 0 4
+          ∷ Order (0 ∷ 3 ∷ 1 ∷ 2 ∷ 7 ∷ 7 ∷ 7 ∷ 7 ∷ 7 ∷ [])
+          ∷ RowReport 0 (2078 ∷ 0 ∷ 0 ∷ 1745520 ∷ 0 ∷ [])
+          ∷ RowReport 1 (30 ∷ 33600 ∷ 50400 ∷ 0 ∷ 0 ∷ [])
+          ∷ RowReport 2 (2048 ∷ 8400 ∷ 3449040 ∷ 0 ∷ 0 ∷ [])
+          ∷ [];
+    }
+
+-- an inner row, class 2, falls behind while class 3's long packet is sent. Its next packets start at its own finish all the same, the last
+-- at 33600, though the line's virtual time is then 100800. Once it is empty it is woken: now its start is the line's virtual time, 109200,
+-- and its lag, like that of class 4 below it, is counted from that event on. Its own virtual time rises to class 4's start at every packet
+-- but the first
+unfoldable pub inner : Run
+inner =
+    record {
+      lent =
+          lend (row 1 0 0 ∷ row 2 1 420 ∷ row 3 1 420 ∷ row 4 2 280 ∷ [])
+          (packet 4 10 ∷ packet 4 10 ∷ packet 4 10 ∷ packet 3 100 ∷ finish ∷ finish ∷ finish ∷ finish
+          ∷ packet 4 10 ∷ packet 4 10 ∷ finish ∷ packet 4 10 ∷ []);
+      facts =
+          Answers 0 0 0 6
+          ∷ Order (0 ∷ 3 ∷ 1 ∷ 2 ∷ 8 ∷ 9 ∷ replicate 7 7)
+          ∷ RowReport 0 (140 ∷ 0 ∷ 0 ∷ 134400 ∷ 2 ∷ [])
+          ∷ RowReport 1 (40 ∷ 126000 ∷ 142800 ∷ 109200 ∷ 2 ∷ [])
+          ∷ RowReport 2 (100 ∷ 8400 ∷ 176400 ∷ 0 ∷ 0 ∷ [])
+          ∷ RowReport 3 (40 ∷ 100800 ∷ 126000 ∷ 0 ∷ 2 ∷ [])
+          ∷ Lags (pos 0 ∷ negsuc 4199 ∷ pos 0 ∷ negsuc 5599 ∷ pos 7 ∷ [])
+          ∷ Working (replicate 12 0 ++ 7 ∷ [])
+          ∷ [];
+    }
+
+-- a refusal after events that are none: every lent word stays
+unfoldable pub untouched : Run
+untouched =
+    record {
+      lent = lend halves (packet 10 100 ∷ finish ∷ finish ∷ []);
+      facts =
+          Answers 14 2 0 0
+          ∷ Order (replicate 4 7)
+          ∷ Report (replicate 16 7)
+          ∷ Lags (replicate 4 (pos 7))
+          ∷ Working (replicate 4 7)
+          ∷ [];
+    }
+
+unfoldable pub runs : List Run
+runs = not-eligible ∷ behind ∷ inner ∷ untouched ∷ []
