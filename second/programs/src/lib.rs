@@ -1,0 +1,27 @@
+//! A replayer for a hierarchical packet scheduler in whole numbers, and the sheet of its promise.
+#![forbid(unsafe_code)]
+
+mod answer;
+mod counts;
+mod events;
+mod print;
+pub mod program;
+pub mod promise;
+mod report;
+mod run;
+mod sentences;
+mod shares;
+pub mod sheet;
+mod slices;
+mod table;
+mod text;
+mod tree;
+
+pub use answer::Answer;
+pub use events::MOST_BYTES;
+pub use report::REPORT_WIDTH;
+pub use run::{run, MOST_EVENTS, MOST_ROWS};
+pub use sentences::sentence;
+pub use shares::{is_allowed, WHOLE};
+pub use slices::{EventSlices, Lent, Room, TableSlices};
+pub use table::MOST_DEPTH;

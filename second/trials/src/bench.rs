@@ -1,0 +1,184 @@
+//! Runs the proved programs and the second ones over the same files.
+
+use std::ffi::OsString;
+use std::fs;
+use std::io::{Error, Result};
+use std::path::{Path, PathBuf};
+use std::process::Command;
+
+use crate::{End, Files, Printed};
+
+/// Answers 0 to 14, then `cannot read`, a sheet, and a sheet with a number that outgrows.
+pub const ANSWERS: usize = 18;
+const CANNOT_READ: usize = 15;
+const SHEET: usize = 16;
+const OUTGROWN: usize = 17;
+
+/// What an answer is, for a reader.
+pub fn answer_name(answer: usize) -> String {
+    match answer {
+        CANNOT_READ => "cannot read".to_string(),
+        SHEET => "sheet".to_string(),
+        OUTGROWN => "sheet that outgrows".to_string(),
+        _ => format!("answer {answer}"),
+    }
+}
+
+/// The number of the answer that begins so; nothing if it is none.
+fn answer(output: &[u8]) -> Option<usize> {
+    if output.starts_with(b"cannot read") {
+        return Some(CANNOT_READ);
+    }
+    if output.starts_with(b"own bytes ") {
+        let outgrows = output
+            .split(|b| *b == b'\n')
+            .any(|line| line.ends_with(b" = outgrown"));
+        return Some(if outgrows { OUTGROWN } else { SHEET });
+    }
+    let rest = output.strip_prefix(b"answer,place,second,count\n")?;
+    let number = rest.split(|b| *b == b',').next()?;
+    let number: usize = std::str::from_utf8(number).ok()?.parse().ok()?;
+    (number < CANNOT_READ).then_some(number)
+}
+
+/// Which of the programs is run.
+#[derive(Clone, Copy, Debug, PartialEq, Eq)]
+pub enum Program {
+    Replay,
+    Promise,
+}
+
+impl Program {
+    /// What the proved one is called, and the second one.
+    pub fn names(self) -> [&'static str; 2] {
+        match self {
+            Program::Replay => ["replay", "second"],
+            Program::Promise => ["promise", "promise"],
+        }
+    }
+}
+
+/// What the proved program did, and the second one.
+pub struct Both(pub [Printed; 2]);
+
+impl Both {
+    /// The answer on which they agree to the byte; nothing if they do not.
+    pub fn agreed(&self) -> Option<usize> {
+        let [proved, second] = &self.0;
+        if proved != second || proved.end != End::Status(0) {
+            return None;
+        }
+        answer(&proved.output)
+    }
+}
+
+/// The folders of the programs, and one for the files they are run over.
+pub struct Bench {
+    programs: [PathBuf; 2],
+    folder: PathBuf,
+}
+
+impl Bench {
+    /// The proved programs are in the first folder, the second ones in the other.
+    pub fn new(programs: &[PathBuf; 2], folder: &Path) -> Result<Bench> {
+        fs::create_dir_all(folder)?;
+        Ok(Bench {
+            programs: programs.clone(),
+            folder: folder.to_path_buf(),
+        })
+    }
+
+    pub fn run(&self, files: &Files) -> Result<Both> {
+        let [table, events] = self.files();
+        put(&table, &files.table)?;
+        put(&events, &files.events)?;
+        let table = OsString::from(table);
+        match &files.sheet {
+            None => self.over(Program::Replay, &[table, events.into()]),
+            Some(rest) => self.over(Program::Promise, &[&[table], &rest[..]].concat()),
+        }
+    }
+
+    /// Where a table and a list are put.
+    pub fn files(&self) -> [PathBuf; 2] {
+        ["table.csv", "events.csv"].map(|name| self.folder.join(name))
+    }
+
+    /// Both programs with these arguments.
+    pub fn over(&self, program: Program, arguments: &[OsString]) -> Result<Both> {
+        let [proved, second] = self.paths(program);
+        let printed = |path| Printed::by(Command::new(path).args(arguments), &self.folder);
+        Ok(Both([printed(proved)?, printed(second)?]))
+    }
+
+    pub fn paths(&self, program: Program) -> [PathBuf; 2] {
+        let [proved, second] = program.names();
+        [self.programs[0].join(proved), self.programs[1].join(second)]
+    }
+}
+
+/// The two folders of programs, if all four programs are there.
+pub fn folders(proved: &OsString, second: &OsString) -> Result<[PathBuf; 2]> {
+    let folders = [PathBuf::from(proved), PathBuf::from(second)];
+    for program in [Program::Replay, Program::Promise] {
+        for (folder, name) in folders.iter().zip(program.names()) {
+            let path = folder.join(name);
+            if !path.is_file() {
+                return Err(Error::other(format!("{} is not there", path.display())));
+            }
+        }
+    }
+    Ok(folders)
+}
+
+fn put(path: &Path, bytes: &Option<Vec<u8>>) -> Result<()> {
+    match bytes {
+        Some(bytes) => fs::write(path, bytes),
+        None if path.exists() => fs::remove_file(path),
+        None => Ok(()),
+    }
+}
+
+#[cfg(test)]
+mod tests {
+    use super::*;
+
+    fn printed(output: &str) -> Printed {
+        Printed {
+            output: output.as_bytes().to_vec(),
+            error: Vec::new(),
+            end: End::Status(0),
+        }
+    }
+
+    #[test]
+    fn answers_are_recognised() {
+        let numbered =
+            |line: &str| answer(format!("answer,place,second,count\n{line}\n").as_bytes());
+        assert_eq!(numbered("0,0,0,3"), Some(0));
+        assert_eq!(numbered("14,7,0,0"), Some(14));
+        assert_eq!(numbered("15,0,0,0"), None);
+        assert_eq!(answer(b""), None);
+        assert_eq!(answer(b"cannot read x, line 1: ..\n"), Some(CANNOT_READ));
+        let sheet = "own bytes 1, largest packet 1, three packets 3\n";
+        assert_eq!(answer(sheet.as_bytes()), Some(SHEET));
+        let outgrown = format!("{sheet}\n  class 1: (1 + 3) * 840 / 1 = outgrown\n  the line\n");
+        assert_eq!(answer(outgrown.as_bytes()), Some(OUTGROWN));
+    }
+
+    #[test]
+    fn programs_agree_only_on_an_answer_that_both_print() {
+        let said = "answer,place,second,count\n1,0,0,0\n";
+        let ended = |end| Printed {
+            end,
+            ..printed(said)
+        };
+        assert_eq!(Both([printed(said), printed(said)]).agreed(), Some(1));
+        assert_eq!(Both([printed(said), printed("")]).agreed(), None);
+        assert_eq!(Both([printed(""), printed("")]).agreed(), None);
+        for end in [End::Killed, End::Late, End::Status(1)] {
+            assert_eq!(Both([ended(end), ended(end)]).agreed(), None);
+            assert_eq!(Both([printed(said), ended(end)]).agreed(), None);
+        }
+    }
+}

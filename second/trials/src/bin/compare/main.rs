@@ -1,0 +1,125 @@
+//! The program `compare PROVED SECOND [SEED [LISTS]]`: two folders' programs over the same files.
+#![forbid(unsafe_code)]
+
+mod damage;
+mod faults;
+mod plan;
+mod sheets;
+mod tally;
+
+use std::ffi::OsString;
+use std::io::{Error, Result};
+use std::path::{Path, PathBuf};
+use std::process::ExitCode;
+use std::sync::atomic::{AtomicUsize, Ordering};
+use std::thread;
+
+use plan::trial;
+use tally::Tally;
+use trials::{counted, difference, folders, Bench, Folder};
+
+const DEFAULT_SEED: u64 = 840;
+const DEFAULT_LISTS: usize = 2880;
+
+struct Settings {
+    programs: [PathBuf; 2],
+    seed: u64,
+    /// Besides the one of full size.
+    lists: usize,
+}
+
+fn main() -> ExitCode {
+    counted("compare", |arguments| compare(&settings(arguments)?))
+}
+
+fn settings(arguments: &[OsString]) -> Result<Settings> {
+    let number = |place: usize, default: u64| match arguments.get(place) {
+        None => Some(default),
+        Some(argument) => argument.to_str().and_then(|text| text.parse().ok()),
+    };
+    let lists = number(3, DEFAULT_LISTS as u64).and_then(|lists| usize::try_from(lists).ok());
+    match (arguments, number(2, DEFAULT_SEED), lists) {
+        ([proved, second, rest @ ..], Some(seed), Some(lists)) if rest.len() < 3 => Ok(Settings {
+            programs: folders(proved, second)?,
+            seed,
+            lists,
+        }),
+        _ => Err(Error::other(
+            "give the folders of the programs, then a seed and a number of lists if you like: \
+             compare PROVED SECOND [SEED [LISTS]]",
+        )),
+    }
+}
+
+/// Compares all lists and prints what came of them; true if nothing failed.
+fn compare(settings: &Settings) -> Result<bool> {
+    let folder = Folder::fresh("compare")?;
+    let lists = settings.lists + 1;
+    println!("seed {}, {lists} lists", settings.seed);
+    let mut tally = all_lists(settings, folder.path())?;
+    tally.differing.sort_unstable();
+    print!("{}", tally.text());
+    let mut failed = tally.differing.len();
+    if let Some(first) = tally.differing.first() {
+        show_difference(settings, folder.path(), *first)?;
+    } else if settings.lists >= DEFAULT_LISTS {
+        for shortage in tally.shortages() {
+            println!("compare: {shortage}");
+            failed += 1;
+        }
+    }
+    println!("{} passed, {failed} failed", tally.passed());
+    Ok(failed == 0)
+}
+
+/// Shares the lists out to as many threads as the machine runs at once.
+fn all_lists(settings: &Settings, folder: &Path) -> Result<Tally> {
+    let threads = thread::available_parallelism()?.get();
+    let next = AtomicUsize::new(0);
+    thread::scope(|scope| {
+        let work = |number| {
+            scope.spawn({
+                let next = &next;
+                move || some_lists(settings, folder, number, next)
+            })
+        };
+        let workers: Vec<_> = (0..threads).map(work).collect();
+        let mut tally = Tally::default();
+        for worker in workers {
+            let done = worker.join();
+            tally.join(done.map_err(|_| Error::other("a thread has failed"))??);
+        }
+        Ok(tally)
+    })
+}
+
+/// Takes one list after another until none is left; the one of full size first.
+fn some_lists(
+    settings: &Settings,
+    folder: &Path,
+    worker: usize,
+    next: &AtomicUsize,
+) -> Result<Tally> {
+    let bench = Bench::new(&settings.programs, &folder.join(worker.to_string()))?;
+    let mut tally = Tally::default();
+    loop {
+        let taken = next.fetch_add(1, Ordering::Relaxed);
+        let Some(list) = settings.lists.checked_sub(taken) else {
+            return Ok(tally);
+        };
+        let files = trial(settings.seed, list, settings.lists).files;
+        tally.add(list, bench.run(&files)?.agreed());
+    }
+}
+
+/// Cuts the list down and shows what is left of it.
+fn show_difference(settings: &Settings, folder: &Path, list: usize) -> Result<()> {
+    let bench = Bench::new(&settings.programs, folder)?;
+    let found = trial(settings.seed, list, settings.lists);
+    println!(
+        "compare: list {list} ({}) comes out differently",
+        found.name
+    );
+    print!("{}", difference(&bench, &found.files)?);
+    Ok(())
+}

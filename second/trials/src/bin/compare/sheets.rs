@@ -1,0 +1,168 @@
+//! Tables and arguments for the sheet.
+
+use std::ffi::{OsStr, OsString};
+use std::os::unix::ffi::OsStrExt;
+
+use crate::damage::damage;
+use crate::faults::{put_in, Fault, NOT_DIGITS, TOO_LARGE};
+use second::MOST_EVENTS;
+use trials::{allowed_shares, random_table, Case, Files, Random, Row, Shape, SHAPES};
+
+#[derive(Clone, Copy, Debug, PartialEq, Eq)]
+pub enum Manner {
+    /// A table and arguments that are read.
+    Plain,
+    /// One class under another with small or awkward shares, so that numbers grow.
+    Steep,
+    /// A table that is refused.
+    Refused,
+    /// A table that cannot be read.
+    Faulty(Fault),
+    /// Arguments that cannot be read.
+    Arguments,
+}
+
+/// All refusals of a table.
+const REFUSALS: [u32; 8] = [1, 4, 5, 6, 7, 8, 9, 10];
+
+/// Shares that do not divide 840, so that figures become fractions.
+const AWKWARD: [u32; 8] = [9, 25, 49, 64, 441, 576, 784, 800];
+
+pub fn sheet_files(manner: Manner, random: &mut Random) -> Files {
+    let mut case = Case {
+        rows: random_table(random.pick(&SHAPES), random.pick(&allowed_shares()), random),
+        events: Vec::new(),
+    };
+    let mut arguments = vec![largest(random)];
+    match manner {
+        Manner::Steep => {
+            case.rows = steep_table(random);
+            arguments.push(zeroed(random.word().to_string(), random));
+        }
+        Manner::Refused => {
+            let place = random.below(MOST_EVENTS);
+            damage(&mut case, random.pick(&REFUSALS), place, random);
+        }
+        Manner::Arguments => arguments = unread_arguments(random),
+        _ if random.one_in(3) => {}
+        _ => arguments.push(own(random)),
+    }
+    let mut files = Files {
+        events: None,
+        sheet: Some(arguments),
+        ..Files::of(&case)
+    };
+    files.disguise(random);
+    if let Manner::Faulty(fault) = manner {
+        put_in(&mut files, fault, random);
+    }
+    files
+}
+
+/// A chain; no share grows, so the table is still accepted.
+fn steep_table(random: &mut Random) -> Vec<Row> {
+    let mut rows = random_table(Shape::Chain, 840, random);
+    let awkward = random.one_in(2);
+    for row in &mut rows[1..] {
+        let fits: Vec<u32> = AWKWARD.into_iter().filter(|s| *s <= row.share).collect();
+        row.share = match awkward && !fits.is_empty() {
+            true => random.pick(&fits),
+            false => random.between(1, 8).min(row.share as usize) as u32,
+        };
+    }
+    rows
+}
+
+fn largest(random: &mut Random) -> OsString {
+    let any = random.between(1, 2048);
+    zeroed(random.pick(&[1, 1500, 2048, any]).to_string(), random)
+}
+
+fn own(random: &mut Random) -> OsString {
+    let any = random.word() >> random.below(32);
+    zeroed(random.pick(&[0, 6000, u32::MAX, any]).to_string(), random)
+}
+
+/// Now and then with leading zeros.
+fn zeroed(number: String, random: &mut Random) -> OsString {
+    let zeros = match random.one_in(8) {
+        true => random.between(1, 30),
+        false => 0,
+    };
+    OsString::from("0".repeat(zeros) + &number)
+}
+
+fn unread_arguments(random: &mut Random) -> Vec<OsString> {
+    // No argument holds a byte 0.
+    let unread: Vec<&[u8]> = NOT_DIGITS.into_iter().chain(TOO_LARGE).collect();
+    let unread: Vec<&[u8]> = unread.into_iter().filter(|a| !a.contains(&0)).collect();
+    let wrong = OsStr::from_bytes(random.pick(&unread)).to_os_string();
+    let range = OsString::from(random.pick(&["0", "00", "2049", "4294967295"]));
+    match random.below(7) {
+        0 => Vec::new(),
+        1 => vec![largest(random), own(random), own(random)],
+        2 => vec![wrong],
+        3 => vec![range],
+        4 => vec![random.pick(&[&wrong, &range]).clone(), own(random)],
+        5 => vec![range, wrong],
+        _ => vec![largest(random), wrong],
+    }
+}
+
+#[cfg(test)]
+mod tests {
+    use std::collections::BTreeSet;
+    use std::fs;
+
+    use super::*;
+    use second::program::Response;
+    use trials::Folder;
+
+    /// What the second program answers to 300 such files.
+    fn answers(manner: Manner) -> Vec<Response> {
+        let folder = Folder::fresh("sheets").expect("a folder can be made");
+        let table = folder.path().join("table");
+        let answer = |number| {
+            let files = sheet_files(manner, &mut Random::new(6, number));
+            fs::write(&table, files.table.expect("there is a table")).expect("it can be written");
+            let rest = files.sheet.expect("there are arguments");
+            second::promise::respond(&[&[table.clone().into_os_string()], &rest[..]].concat())
+        };
+        (0..300).map(answer).collect()
+    }
+
+    fn begin(answers: &[Response], with: &str) -> usize {
+        let begins = |a: &&Response| a.output.starts_with(with.as_bytes());
+        answers.iter().filter(begins).count()
+    }
+
+    #[test]
+    fn plain_and_steep_tables_have_a_sheet() {
+        assert_eq!(begin(&answers(Manner::Plain), "own bytes "), 300);
+        let steep = answers(Manner::Steep);
+        assert_eq!(begin(&steep, "own bytes "), 300);
+        let with = |what: &str| {
+            let text = |a: &&Response| String::from_utf8_lossy(&a.output).contains(what);
+            steep.iter().filter(text).count()
+        };
+        assert!(with("outgrown") > 100 && with("rounded up") > 20);
+    }
+
+    #[test]
+    fn every_refusal_of_a_table_comes_up() {
+        let refused = answers(Manner::Refused);
+        assert_eq!(begin(&refused, "answer,"), 300);
+        let said = refused.iter().map(|a| a.error.split(|b| *b == b':').next());
+        assert_eq!(said.collect::<BTreeSet<_>>().len(), REFUSALS.len());
+    }
+
+    #[test]
+    fn faults_and_wrong_arguments_cannot_be_read() {
+        let faulty = answers(Manner::Faulty(Fault::NotDigits));
+        assert_eq!(begin(&faulty, "cannot read "), 300);
+        let wrong = answers(Manner::Arguments);
+        assert_eq!(begin(&wrong, "cannot read"), 300);
+        let said: BTreeSet<_> = wrong.iter().map(|answer| &answer.output).collect();
+        assert_eq!(said.len(), 5);
+    }
+}

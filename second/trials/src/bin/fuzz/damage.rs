@@ -1,0 +1,166 @@
+//! Damages bytes at random.
+
+use trials::{lines, Random};
+
+/// Bytes that such files are made of, and some that they are not.
+const COMMON: &[u8] = b"0123456789012345678901234567890123456789,,,,,,\n\n\n\r \t-+x\0\xff";
+
+const NUMBERS: [&str; 14] = [
+    "0",
+    "1",
+    "840",
+    "841",
+    "2048",
+    "2049",
+    "65536",
+    "705600",
+    "2147483648",
+    "4294967295",
+    "4294967296",
+    "9223372036854775808",
+    "18446744073709551616",
+    "99999999999999999999999999999999999999999",
+];
+
+/// Bytes that one damage puts in, takes out or repeats at most.
+const STRETCH: usize = 12;
+
+/// How often a line is repeated at most, and bytes that this adds but for one line.
+const OFTEN: usize = 300;
+const LONG: usize = 100_000;
+
+/// Damages the bytes once; `other` is what they may be spliced with. Where it is gentle,
+/// what is left can mostly be read.
+pub fn damage(bytes: &mut Vec<u8>, other: &[u8], gentle: bool, random: &mut Random) {
+    match random.below(if gentle { 5 } else { 12 }) {
+        0 | 1 => number(bytes, gentle, random),
+        2..=4 => whole_lines(bytes, gentle, random),
+        5 => flip(bytes, random),
+        6 | 7 => change(bytes, random),
+        8 => insert(bytes, random),
+        9 => drop(bytes.drain(stretch(bytes, random))),
+        10 => repeat(bytes, random),
+        _ if random.one_in(2) => bytes.truncate(random.below(bytes.len() + 1)),
+        _ => splice(bytes, other, random),
+    }
+}
+
+/// A short stretch of these bytes, perhaps empty.
+fn stretch(bytes: &[u8], random: &mut Random) -> std::ops::Range<usize> {
+    let start = random.below(bytes.len() + 1);
+    let end = bytes.len().min(start + random.below(STRETCH));
+    start..end
+}
+
+fn flip(bytes: &mut [u8], random: &mut Random) {
+    let place = random.below(bytes.len().max(1));
+    if let Some(byte) = bytes.get_mut(place) {
+        *byte ^= 1 << random.below(8);
+    }
+}
+
+fn change(bytes: &mut [u8], random: &mut Random) {
+    let place = random.below(bytes.len().max(1));
+    if let Some(byte) = bytes.get_mut(place) {
+        *byte = random.pick(COMMON);
+    }
+}
+
+fn insert(bytes: &mut Vec<u8>, random: &mut Random) {
+    let place = random.below(bytes.len() + 1);
+    let count = random.between(1, STRETCH);
+    let new: Vec<u8> = match random.one_in(3) {
+        true => (0..count).map(|_| random.below(256) as u8).collect(),
+        false => (0..count).map(|_| random.pick(COMMON)).collect(),
+    };
+    bytes.splice(place..place, new);
+}
+
+fn repeat(bytes: &mut Vec<u8>, random: &mut Random) {
+    let range = stretch(bytes, random);
+    let again = bytes[range.clone()].to_vec();
+    bytes.splice(range.end..range.end, again);
+}
+
+/// The beginning of one and the end of the other.
+fn splice(bytes: &mut Vec<u8>, other: &[u8], random: &mut Random) {
+    bytes.truncate(random.below(bytes.len() + 1));
+    bytes.extend(&other[random.below(other.len() + 1)..]);
+}
+
+/// Puts another number in the place of one, at times another of these bytes' own.
+fn number(bytes: &mut Vec<u8>, gentle: bool, random: &mut Random) {
+    let begins = |place: &usize| {
+        let before = place.checked_sub(1).map(|p| bytes[p]);
+        bytes[*place].is_ascii_digit() && !before.is_some_and(|b| b.is_ascii_digit())
+    };
+    let places: Vec<usize> = (0..bytes.len()).filter(begins).collect();
+    if places.is_empty() {
+        return;
+    }
+    let digits = |start: usize| -> Vec<u8> {
+        let digits = bytes[start..].iter().take_while(|b| b.is_ascii_digit());
+        digits.copied().collect()
+    };
+    let start = random.pick(&places);
+    let end = start + digits(start).len();
+    let new = match random.below(if gentle { 3 } else { 4 }) {
+        0 => digits(random.pick(&places)),
+        1 => random.below(3000).to_string().into_bytes(),
+        2 => random.word().to_string().into_bytes(),
+        _ => random.pick(&NUMBERS).as_bytes().to_vec(),
+    };
+    bytes.splice(start..end, new);
+}
+
+/// Takes a line out, repeats it, or puts it elsewhere; not the heading where it is gentle.
+fn whole_lines(bytes: &mut Vec<u8>, gentle: bool, random: &mut Random) {
+    let mut all = lines(bytes);
+    let first = usize::from(gentle);
+    if all.len() <= first {
+        return;
+    }
+    let [one, other] = [(); 2].map(|()| random.between(first, all.len() - 1));
+    match random.below(4) {
+        0 => drop(all.remove(one)),
+        1 => all.insert(one, all[other].clone()),
+        2 => all.swap(one, other),
+        _ => {
+            let most = OFTEN.min(1 + LONG / all[one].len());
+            let often = vec![all[one].clone(); random.between(1, most)];
+            all.splice(other..other, often);
+        }
+    }
+    *bytes = all.concat();
+}
+
+#[cfg(test)]
+mod tests {
+    use super::*;
+
+    #[test]
+    fn any_bytes_can_be_damaged_and_most_are_changed() {
+        let texts: [&[u8]; 4] = [b"", b"\n", b"7", b"class,length\n10,100\n0,0\n"];
+        let mut changed = 0;
+        for number in 0..4000 {
+            let mut random = Random::new(1, number);
+            let before = texts[number as usize % texts.len()];
+            let mut bytes = before.to_vec();
+            damage(&mut bytes, texts[3], random.one_in(2), &mut random);
+            changed += usize::from(bytes != before);
+        }
+        assert!(changed > 1500);
+    }
+
+    #[test]
+    fn a_number_takes_the_place_of_a_whole_number() {
+        for list in 0..100 {
+            let mut bytes = b"x,123,y".to_vec();
+            number(&mut bytes, list % 2 == 0, &mut Random::new(2, list));
+            let middle = bytes
+                .strip_prefix(b"x,")
+                .and_then(|b| b.strip_suffix(b",y"));
+            assert!(middle.is_some_and(|m| m.iter().all(u8::is_ascii_digit)));
+        }
+    }
+}

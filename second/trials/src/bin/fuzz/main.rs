@@ -1,0 +1,171 @@
+//! The program `fuzz PROVED SECOND EXAMPLES SECONDS [SEED]`: both programs over damaged examples.
+#![forbid(unsafe_code)]
+
+mod damage;
+
+use std::env;
+use std::ffi::OsString;
+use std::fs;
+use std::io::{Error, Result};
+use std::os::unix::ffi::{OsStrExt, OsStringExt};
+use std::path::{Path, PathBuf};
+use std::process::ExitCode;
+use std::time::{Duration, Instant};
+
+use damage::damage;
+use trials::{answer_name, counted, difference, folders, Bench, Files, Folder, Random, ANSWERS};
+
+const DEFAULT_SEED: u64 = 1;
+
+/// Where LARGEST and OWN begin before they are damaged.
+const SHEETS: [&[&[u8]]; 4] = [
+    &[b"1500"],
+    &[b"1500", b"6000"],
+    &[b"2048", b"4294967295"],
+    &[b"1", b"0"],
+];
+
+/// Bytes of an argument at most.
+const MOST_ARGUMENT: usize = 100_000;
+
+struct Settings {
+    programs: [PathBuf; 2],
+    examples: PathBuf,
+    time: Duration,
+    seed: u64,
+}
+
+fn main() -> ExitCode {
+    counted("fuzz", |arguments| fuzz(&settings(arguments)?))
+}
+
+fn settings(arguments: &[OsString]) -> Result<Settings> {
+    let number = |place: usize| -> Option<u64> { arguments.get(place)?.to_str()?.parse().ok() };
+    let seed = match arguments.len() {
+        4 => Some(DEFAULT_SEED),
+        5 => number(4),
+        _ => None,
+    };
+    match (arguments, number(3), seed) {
+        ([proved, second, examples, ..], Some(seconds), Some(seed)) => Ok(Settings {
+            programs: folders(proved, second)?,
+            examples: examples.into(),
+            time: Duration::from_secs(seconds),
+            seed,
+        }),
+        _ => Err(Error::other("say for how long: fuzz SECONDS [SEED]")),
+    }
+}
+
+/// Compares until the time is over and prints what came of it; true if nothing failed.
+fn fuzz(settings: &Settings) -> Result<bool> {
+    let folder = Folder::fresh("fuzz")?;
+    let bench = Bench::new(&settings.programs, folder.path())?;
+    let examples = examples(&settings.examples)?;
+    let begun = Instant::now();
+    let mut counts = [0; ANSWERS];
+    let mut failed = 0;
+    for number in 0.. {
+        if begun.elapsed() > settings.time {
+            break;
+        }
+        let files = damaged(&examples, &mut Random::new(settings.seed, number));
+        match bench.run(&files)?.agreed() {
+            Some(answer) => counts[answer] += 1,
+            None => {
+                keep(settings.seed, number, &files)?;
+                if failed == 0 {
+                    print!("{}", difference(&bench, &files)?);
+                }
+                failed += 1;
+            }
+        }
+    }
+    print!("{}", text(&counts));
+    println!("{} passed, {failed} failed", counts.iter().sum::<usize>());
+    Ok(failed == 0)
+}
+
+/// A line for each answer that came up.
+fn text(counts: &[usize; ANSWERS]) -> String {
+    let came_up = counts.iter().enumerate().filter(|(_, count)| **count > 0);
+    came_up
+        .map(|(answer, count)| format!("{}: {count}\n", answer_name(answer)))
+        .collect()
+}
+
+struct Example {
+    table: Vec<u8>,
+    events: Vec<u8>,
+}
+
+/// The examples below this folder, in a fixed order.
+fn examples(folder: &Path) -> Result<Vec<Example>> {
+    let mut found = Vec::new();
+    let mut folders = vec![folder.to_path_buf()];
+    while let Some(folder) = folders.pop() {
+        let entries: Result<Vec<_>> = fs::read_dir(&folder)?.collect();
+        let mut paths: Vec<PathBuf> = entries?.iter().map(|entry| entry.path()).collect();
+        paths.sort();
+        folders.extend(paths.into_iter().filter(|path| path.is_dir()));
+        if let Ok(table) = fs::read(folder.join("table.csv")) {
+            // A sheet has no events.
+            let events = fs::read(folder.join("events.csv")).unwrap_or_default();
+            found.push(Example { table, events });
+        }
+    }
+    match found.is_empty() {
+        true => Err(Error::other(format!("no examples in {}", folder.display()))),
+        false => Ok(found),
+    }
+}
+
+/// A table with its list or with arguments, damaged once or several times.
+fn damaged(examples: &[Example], random: &mut Random) -> Files {
+    let [own, other] = [(); 2].map(|()| &examples[random.below(examples.len())]);
+    let (mut table, mut events) = (own.table.clone(), own.events.clone());
+    let mut sheet: Vec<Vec<u8>> = random.pick(&SHEETS).iter().map(|a| a.to_vec()).collect();
+    let [is_sheet, gentle] = [random.one_in(3), random.one_in(2)];
+    for _ in 0..random.pick(&[1, 1, 1, 2, 3, 8]) {
+        match (random.one_in(2), is_sheet) {
+            (true, _) => damage(&mut table, &other.table, gentle, random),
+            (false, false) => damage(&mut events, &other.events, gentle, random),
+            (false, true) => {
+                let place = random.below(sheet.len());
+                damage(&mut sheet[place], SHEETS[2][1], gentle, random);
+            }
+        }
+    }
+    for argument in &mut sheet {
+        // No argument holds a byte 0, nor more bytes than a system takes.
+        argument.retain(|byte| *byte != 0);
+        argument.truncate(MOST_ARGUMENT);
+    }
+    Files {
+        table: Some(table),
+        events: (!is_sheet).then_some(events),
+        sheet: is_sheet.then(|| sheet.into_iter().map(OsString::from_vec).collect()),
+    }
+}
+
+/// Keeps the files of a difference where temporary files are, and says where.
+fn keep(seed: u64, number: u64, files: &Files) -> Result<()> {
+    let folder = env::temp_dir().join(format!("fuzz-kept-{seed}-{number}"));
+    fs::create_dir_all(&folder)?;
+    let arguments = files.sheet.as_ref().map(|sheet| {
+        let lines = sheet.iter().map(|a| [a.as_bytes(), b"\n"].concat());
+        lines.collect::<Vec<_>>().concat()
+    });
+    let kept = [
+        ("table.csv", &files.table),
+        ("events.csv", &files.events),
+        ("arguments", &arguments),
+    ];
+    for (name, bytes) in kept {
+        if let Some(bytes) = bytes {
+            fs::write(folder.join(name), bytes)?;
+        }
+    }
+    println!("fuzz: the programs differ on {}", folder.display());
+    Ok(())
+}

@@ -1,0 +1,121 @@
+//! The forms that whatever a program prints must have.
+
+use trials::Printed;
+
+const ANSWER: &str = "answer,place,second,count";
+const ROWS: &str = "identifier,bytes,start,finish,virtual,held,lag";
+
+/// One sentence, a refusal, the results of a run, or a sheet.
+pub fn is_whole(printed: &Printed) -> bool {
+    // The name of a file is printed as it was given, so only a sentence may be other bytes.
+    let output = String::from_utf8_lossy(&printed.output);
+    let error = String::from_utf8_lossy(&printed.error);
+    if output.starts_with("cannot read") {
+        return is_line(&output) && error.is_empty();
+    }
+    let Some(body) = output.strip_suffix('\n') else {
+        return false;
+    };
+    let lines: Vec<&str> = body.split('\n').collect();
+    match lines[..] {
+        [ANSWER, answer] => is_refusal(answer, &error),
+        [ANSWER, answer, "order", ref rest @ ..] => error.is_empty() && are_results(answer, rest),
+        _ => error.is_empty() && is_sheet(body),
+    }
+}
+
+fn is_line(text: &str) -> bool {
+    text.find('\n') == Some(text.len() - 1)
+}
+
+/// So many numbers, the last of which may be below 0.
+fn are_numbers(line: &str, count: usize) -> bool {
+    let is_number = |field: &str| field.parse::<i128>().is_ok_and(|n| n.to_string() == field);
+    line.split(',').count() == count && line.split(',').all(is_number)
+}
+
+fn is_refusal(answer: &str, error: &str) -> bool {
+    let number = answer.split(',').next().unwrap_or("");
+    let said = error.starts_with(&format!("refused {number}: "));
+    are_numbers(answer, 4) && number != "0" && said && error.ends_with(".\n") && is_line(error)
+}
+
+fn are_results(answer: &str, rest: &[&str]) -> bool {
+    let count = answer.strip_prefix("0,0,0,").and_then(|c| c.parse().ok());
+    let Some((order, rows)) = count.and_then(|count: usize| rest.split_at_checked(count)) else {
+        return false;
+    };
+    let [heading, rows @ ..] = rows else {
+        return false;
+    };
+    let packets = order.iter().all(|line| are_numbers(line, 1));
+    packets && *heading == ROWS && rows.len() > 1 && rows.iter().all(|row| are_numbers(row, 7))
+}
+
+fn is_sheet(body: &str) -> bool {
+    let mut parts = body.split("\n\n");
+    let first = parts.next().unwrap_or("");
+    let is_class = |part: &str| {
+        let lines: Vec<&str> = part.split('\n').collect();
+        let last = lines.last().unwrap_or(&"");
+        lines.len() > 3 && part.starts_with("class ") && last.starts_with("  the line")
+    };
+    let parts: Vec<&str> = parts.collect();
+    let begins = first.starts_with("own bytes ") && !first.contains('\n');
+    begins && !parts.is_empty() && parts.into_iter().all(is_class)
+}
+
+#[cfg(test)]
+mod tests {
+    use super::*;
+    use trials::End;
+
+    fn whole(output: &str, error: &str) -> bool {
+        is_whole(&Printed {
+            output: output.as_bytes().to_vec(),
+            error: error.as_bytes().to_vec(),
+            end: End::Status(0),
+        })
+    }
+
+    #[test]
+    fn a_sentence_is_one_line() {
+        assert!(whole("cannot read x, line 1: ..\n", ""));
+        assert!(!whole("cannot read x, line 1: ..", ""));
+        assert!(!whole("cannot read x\ncannot read x\n", ""));
+        assert!(!whole("cannot read x\n", "refused 1: x.\n"));
+        assert!(!whole("", ""));
+    }
+
+    #[test]
+    fn a_refusal_has_its_sentence() {
+        let output = "answer,place,second,count\n5,2,1,0\n";
+        assert!(whole(output, "refused 5: row 2 ..; mend it.\n"));
+        assert!(!whole(output, ""));
+        assert!(!whole(output, "refused 4: row 2 ..; mend it.\n"));
+        assert!(!whole(output, "refused 5: one.\nrefused 5: two.\n"));
+    }
+
+    #[test]
+    fn results_have_all_their_lines() {
+        let rows = "identifier,bytes,start,finish,virtual,held,lag\n\
+                    1,0,0,0,0,0,0\n2,0,0,0,0,0,-5\n";
+        let output = |count: usize, order: &str| {
+            format!("answer,place,second,count\n0,0,0,{count}\norder\n{order}{rows}")
+        };
+        assert!(whole(&output(2, "0\n1\n"), ""));
+        assert!(!whole(&output(2, "0\n"), ""));
+        assert!(!whole(&output(1, "0\n1\n"), ""));
+        assert!(!whole(&output(1, "+1\n"), ""));
+        assert!(!whole(output(0, "").trim_end(), ""));
+    }
+
+    #[test]
+    fn a_sheet_has_a_number_for_each_class() {
+        let first = "own bytes 1, largest packet 1, three packets 3\n";
+        let class = "\nclass 2 (row 1)\n  own bytes: 1\n  class 2: ..\n  the line ..\n";
+        assert!(whole(&format!("{first}{class}{class}"), ""));
+        assert!(!whole(first, ""));
+        assert!(!whole(&format!("{first}{class}\nclass 3 (row 2)\n"), ""));
+    }
+}

@@ -1,0 +1,201 @@
+//! All trials: which program is given which files and arguments.
+
+use std::ffi::{OsStr, OsString};
+use std::fmt;
+use std::os::unix::ffi::OsStrExt;
+
+use crate::texts::{damaged, lengthened, Text};
+use trials::Program;
+
+pub const TABLE: &str = "identifier,parent,share\n1,0,0\n2,1,420\n3,1,420\n4,2,420\n5,2,420\n";
+pub const EVENTS: &str = "class,length\n4,100\n3,100\n5,100\n0,0\n0,0\n4,1500\n";
+
+/// Numbers of arguments that no program takes, and one far beyond.
+const MANY: [usize; 2] = [4, 1000];
+
+#[derive(Clone)]
+pub enum Input {
+    /// A file with these bytes.
+    Bytes(Vec<u8>),
+    /// A file with a name of its own, with these bytes.
+    Named(&'static str, Vec<u8>),
+    /// A folder.
+    Folder,
+    /// A file that may not be read.
+    Unreadable,
+    /// An argument as it is.
+    Plain(OsString),
+}
+
+pub struct Trial {
+    pub name: String,
+    pub program: Program,
+    pub inputs: Vec<Input>,
+}
+
+impl fmt::Display for Trial {
+    fn fmt(&self, to: &mut fmt::Formatter) -> fmt::Result {
+        write!(to, "{}, {}", self.program.names()[0], self.name)
+    }
+}
+
+/// Both programs over the whole set.
+pub fn trials() -> Vec<Trial> {
+    let mut all = Vec::new();
+    for text in tables() {
+        all.extend(with_table(&text.name, Input::Bytes(text.bytes)));
+    }
+    for text in lists() {
+        all.push(with_events(&text.name, Input::Bytes(text.bytes)));
+    }
+    for (name, input) in special() {
+        all.extend(with_table(&name, input.clone()));
+        all.push(with_events(&name, input));
+    }
+    all.extend(numbers_of_arguments());
+    all.extend(sheet_arguments());
+    all
+}
+
+fn tables() -> Vec<Text> {
+    let mut texts = damaged(TABLE);
+    texts.extend([257, 100_000].map(|count| lengthened(TABLE, count)));
+    texts
+}
+
+fn lists() -> Vec<Text> {
+    let mut texts = damaged(EVENTS);
+    texts.extend([65_536, 65_537, 200_000].map(|count| lengthened(EVENTS, count)));
+    texts
+}
+
+fn bytes(text: &str) -> Input {
+    Input::Bytes(text.as_bytes().to_vec())
+}
+
+fn plain(argument: impl AsRef<OsStr>) -> Input {
+    Input::Plain(argument.as_ref().to_os_string())
+}
+
+fn with_table(name: &str, table: Input) -> [Trial; 2] {
+    let trial = |program, rest: Vec<Input>| Trial {
+        name: format!("table: {name}"),
+        program,
+        inputs: [vec![table.clone()], rest].concat(),
+    };
+    [
+        trial(Program::Replay, vec![bytes(EVENTS)]),
+        trial(Program::Promise, vec![plain("1500"), plain("6000")]),
+    ]
+}
+
+fn with_events(name: &str, events: Input) -> Trial {
+    Trial {
+        name: format!("events: {name}"),
+        program: Program::Replay,
+        inputs: vec![bytes(TABLE), events],
+    }
+}
+
+/// Files that are none, and names that are odd.
+fn special() -> Vec<(String, Input)> {
+    let long = "n".repeat(5000);
+    let odd: [(&str, &[u8]); 7] = [
+        ("missing", b"/no such folder/table.csv"),
+        ("a missing name with spaces", b" no such file "),
+        ("no bytes at all", b"/dev/null"),
+        ("a name of 5,000 bytes", long.as_bytes()),
+        ("an empty name", b""),
+        ("a name that is not text", b"\xff\xfe\x01"),
+        ("a name like an option", b"--help"),
+    ];
+    let mut inputs: Vec<(String, Input)> = odd
+        .into_iter()
+        .map(|(name, bytes)| (name.to_string(), plain(OsStr::from_bytes(bytes))))
+        .collect();
+    for text in [TABLE, EVENTS] {
+        let named = Input::Named("a name  with spaces.csv", text.as_bytes().to_vec());
+        inputs.push((format!("{} bytes, name with spaces", text.len()), named));
+    }
+    inputs.push(("a folder".to_string(), Input::Folder));
+    inputs.push(("an unreadable file".to_string(), Input::Unreadable));
+    inputs
+}
+
+fn numbers_of_arguments() -> Vec<Trial> {
+    let trial = |program, count: usize, text: &str| Trial {
+        name: format!("{count} arguments"),
+        program,
+        inputs: vec![bytes(text); count],
+    };
+    let mut all = Vec::new();
+    for count in [0, 1].into_iter().chain(MANY) {
+        all.push(trial(Program::Replay, count, TABLE));
+        all.push(trial(Program::Promise, count, TABLE));
+    }
+    all.push(trial(Program::Replay, 3, TABLE));
+    all
+}
+
+/// What LARGEST and OWN may be given as.
+fn values() -> Vec<OsString> {
+    let short = [
+        "",
+        "-1",
+        "+1",
+        " 1",
+        "1 ",
+        "\t1",
+        "1\n",
+        "0",
+        "00",
+        "1",
+        "2047",
+        "2048",
+        "2049",
+        "65536",
+        "4294967295",
+        "4294967296",
+        "4294967297",
+        "18446744073709551615",
+        "18446744073709551616",
+        "18446744073709551617",
+        "0x10",
+        "1e3",
+        "1.5",
+        "1,5",
+        "x",
+        "1x",
+        "--help",
+    ];
+    let mut values: Vec<OsString> = short.into_iter().map(OsString::from).collect();
+    for count in [1000, 100_000] {
+        let zeros = "0".repeat(count);
+        values.push("9".repeat(count).into());
+        values.push(format!("{zeros}1500").into());
+        values.push(format!("{zeros}4294967296").into());
+        values.push(zeros.into());
+        values.push("x".repeat(count).into());
+    }
+    values.push(OsStr::from_bytes(b"\xff").to_os_string());
+    values
+}
+
+fn sheet_arguments() -> Vec<Trial> {
+    let trial = |name: &str, value: &OsStr, rest: Vec<Input>| {
+        let shown: String = value.to_string_lossy().chars().take(24).collect();
+        Trial {
+            name: format!("{name} {shown:?} of {} bytes", value.len()),
+            program: Program::Promise,
+            inputs: [vec![bytes(TABLE)], rest].concat(),
+        }
+    };
+    let mut all = Vec::new();
+    for value in values() {
+        all.push(trial("LARGEST", &value, vec![plain(&value)]));
+        all.push(trial("OWN", &value, vec![plain("1500"), plain(&value)]));
+        let both = vec![plain(&value), plain(&value)];
+        all.push(trial("LARGEST and OWN", &value, both));
+    }
+    all
+}

@@ -1,0 +1,28 @@
+//! Tables and event lists for comparing and timing programs, the same for the same seed;
+//! running programs over them, and showing where they differ.
+#![forbid(unsafe_code)]
+
+mod bench;
+mod case;
+mod ending;
+mod events;
+mod files;
+mod folder;
+mod printed;
+mod random;
+mod show;
+mod shrink;
+mod steady;
+mod tables;
+
+pub use bench::{answer_name, folders, Bench, Both, Program, ANSWERS};
+pub use case::{Case, Event, Row, FINISH};
+pub use ending::counted;
+pub use events::{random_events, sending};
+pub use files::{lines, Files};
+pub use folder::Folder;
+pub use printed::{End, Printed};
+pub use random::Random;
+pub use show::difference;
+pub use steady::steady_case;
+pub use tables::{allowed_shares, fresh_identifier, greatest_share, random_table, Shape, SHAPES};

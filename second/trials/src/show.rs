@@ -1,0 +1,98 @@
+//! Shows a difference: the files and what each program printed.
+
+use std::io::Result;
+
+use crate::shrink::shrink;
+use crate::{lines, Bench, Both, End, Files, Printed};
+
+/// Lines of a file or an output that are shown at most.
+const MOST_LINES: usize = 60;
+
+/// Lines that are shown before the first that differs, where not all are shown.
+const LINES_BEFORE: usize = 10;
+
+/// What is left of files on which the programs differ when they are cut down.
+pub fn difference(bench: &Bench, files: &Files) -> Result<String> {
+    let mut differs = |files: &_| bench.run(files).is_ok_and(|both| both.agreed().is_none());
+    let small = shrink(files, &mut differs);
+    Ok(text(&small, &bench.run(&small)?))
+}
+
+fn text(files: &Files, both: &Both) -> String {
+    let [proved, second] = &both.0;
+    let outputs = lines(&proved.output).into_iter().zip(lines(&second.output));
+    let alike = outputs.take_while(|(one, other)| one == other).count();
+    let rest = match &files.sheet {
+        None => file("the list", &files.events),
+        Some(arguments) => format!("--- arguments after the table: {arguments:?}\n"),
+    };
+    [
+        file("the table", &files.table),
+        rest,
+        printed("the proved program", proved, alike),
+        printed("the second program", second, alike),
+    ]
+    .concat()
+}
+
+fn file(name: &str, bytes: &Option<Vec<u8>>) -> String {
+    match bytes {
+        Some(bytes) => format!("--- {name}\n{}", shown(bytes, 0)),
+        None => format!("--- {name} is a file that is not there\n"),
+    }
+}
+
+fn printed(name: &str, printed: &Printed, alike: usize) -> String {
+    let output = shown(&printed.output, alike);
+    let mut text = format!("--- {name}, standard output\n{output}");
+    if !printed.error.is_empty() {
+        text += &format!("--- {name}, standard error\n{}", shown(&printed.error, 0));
+    }
+    if printed.end != End::Status(0) {
+        text += &format!("--- {name} ended otherwise: {:?}\n", printed.end);
+    }
+    text
+}
+
+/// The lines, with other bytes than plain characters spelt out; of many lines those
+/// about the first that is not alike.
+fn shown(bytes: &[u8], alike: usize) -> String {
+    let lines = lines(bytes);
+    let mut text = String::new();
+    let mut left_out = 0;
+    if lines.len() > MOST_LINES && alike > LINES_BEFORE {
+        left_out = alike - LINES_BEFORE;
+        text += &format!("({left_out} lines that are alike)\n");
+    }
+    for line in lines.iter().skip(left_out).take(MOST_LINES) {
+        match line.strip_suffix(b"\n") {
+            Some(body) => text += &format!("{}\n", body.escape_ascii()),
+            None => text += &format!("{} (no line end)\n", line.escape_ascii()),
+        }
+    }
+    let further = lines.len().saturating_sub(left_out + MOST_LINES);
+    if further > 0 {
+        text += &format!("(and {further} further lines)\n");
+    }
+    text
+}
+
+#[cfg(test)]
+mod tests {
+    use super::*;
+
+    #[test]
+    fn odd_bytes_and_missing_ends_are_seen() {
+        assert_eq!(shown(b"1,2\r\n\xff", 0), "1,2\\r\n\\xff (no line end)\n");
+    }
+
+    #[test]
+    fn of_many_lines_those_about_the_difference_are_shown() {
+        let long = b"1\n".repeat(100);
+        assert!(shown(&long, 0).ends_with("1\n(and 40 further lines)\n"));
+        let from_difference = shown(&long, 30);
+        assert!(from_difference.starts_with("(20 lines that are alike)\n1\n"));
+        assert!(from_difference.ends_with("1\n(and 20 further lines)\n"));
+        assert_eq!(shown(&long, 60).lines().count(), 51);
+    }
+}

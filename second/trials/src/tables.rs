@@ -1,0 +1,327 @@
+//! Random class tables of several shapes, and even ones.
+
+use std::collections::BTreeSet;
+
+use second::{is_allowed, MOST_DEPTH, MOST_ROWS, WHOLE};
+
+use crate::{Random, Row};
+
+#[derive(Clone, Copy, Debug, PartialEq, Eq)]
+pub enum Shape {
+    /// All classes under the root.
+    Flat,
+    /// One class under another; with further ones beside them if shares are filled.
+    Chain,
+    /// Mostly one under another, with side arms.
+    Deep,
+    /// Many classes under few.
+    Wide,
+    /// A class under any row.
+    Any,
+    /// Flat, with equal shares.
+    Even,
+    /// Two levels, with equal shares in each.
+    Groups,
+    /// The root and one class.
+    Two,
+    /// As many rows as there may be.
+    Full,
+}
+
+/// All shapes.
+pub const SHAPES: [Shape; 9] = [
+    Shape::Flat,
+    Shape::Chain,
+    Shape::Deep,
+    Shape::Wide,
+    Shape::Any,
+    Shape::Even,
+    Shape::Groups,
+    Shape::Two,
+    Shape::Full,
+];
+
+/// A table that is accepted. Its first class has the given share where that fits.
+pub fn random_table(shape: Shape, first_share: u32, random: &mut Random) -> Vec<Row> {
+    let names = identifiers(random);
+    let goal = match shape {
+        Shape::Even => return even_table(&[random.between(2, 40)], &names),
+        Shape::Groups => {
+            let fans = [random.between(2, 6), random.between(2, 8)];
+            return even_table(&fans, &names);
+        }
+        Shape::Full => return full_table(first_share, names, random),
+        Shape::Two => 2,
+        Shape::Flat => random.between(3, 40),
+        Shape::Chain => random.between(3, 1 + MOST_DEPTH),
+        Shape::Deep => random.between(4, 30),
+        Shape::Wide => random.between(20, 80),
+        Shape::Any => random.between(3, 60),
+    };
+    let mut growing = Growing::new(names);
+    growing.grow(shape, goal, first_share, random);
+    if shape != Shape::Two && random.one_in(2) {
+        growing.fill();
+    }
+    growing.rows
+}
+
+/// A table with this many classes under each row, level by level, and equal shares.
+pub fn even_table(fans: &[usize], names: &[u32]) -> Vec<Row> {
+    let mut growing = Growing::new(names.to_vec());
+    let mut level = vec![0];
+    for fan in fans {
+        let first = growing.rows.len();
+        let share = greatest_share(WHOLE / *fan as u32);
+        for parent in level {
+            (0..*fan).for_each(|_| growing.add(parent, share));
+        }
+        level = (first..growing.rows.len()).collect();
+    }
+    growing.rows
+}
+
+/// 256 rows, most of the rows with children giving all that they have.
+fn full_table(first_share: u32, names: Vec<u32>, random: &mut Random) -> Vec<Row> {
+    let shape = random.pick(&[Shape::Flat, Shape::Deep, Shape::Wide, Shape::Any]);
+    let first_share = first_share.min(WHOLE / 2);
+    let mut growing = Growing::new(names);
+    if shape != Shape::Flat {
+        let goal = random.between(120, 220);
+        growing.grow(shape, goal, first_share, random);
+        growing.fill();
+    }
+    growing.grow(shape, MOST_ROWS, first_share, random);
+    growing.rows
+}
+
+/// A table as it grows: besides its rows, what each row still has to give.
+struct Growing {
+    rows: Vec<Row>,
+    depths: Vec<usize>,
+    left: Vec<u32>,
+    names: Vec<u32>,
+}
+
+impl Growing {
+    fn new(names: Vec<u32>) -> Growing {
+        let root = Row {
+            identifier: names[0],
+            parent: 0,
+            share: 0,
+        };
+        Growing {
+            rows: vec![root],
+            depths: vec![0],
+            left: vec![WHOLE],
+            names,
+        }
+    }
+
+    fn add(&mut self, parent: usize, share: u32) {
+        self.rows.push(Row {
+            identifier: self.names[self.rows.len()],
+            parent: self.rows[parent].identifier,
+            share,
+        });
+        self.depths.push(self.depths[parent] + 1);
+        self.left.push(WHOLE);
+        self.left[parent] -= share;
+    }
+
+    /// Adds classes until there are so many rows, or no row can have a further one.
+    fn grow(&mut self, shape: Shape, goal: usize, first_share: u32, random: &mut Random) {
+        let spread = random.one_in(2);
+        while self.rows.len() < goal {
+            let Some(parent) = self.parent(shape, random) else {
+                return;
+            };
+            let to_come = (goal - self.rows.len()) as u32;
+            let most = match shape {
+                Shape::Flat => most_of_flat(self.left[parent], to_come, spread),
+                _ => self.left[parent],
+            };
+            let share = match self.rows.len() {
+                1 => greatest_share(first_share.min(most)),
+                _ => random_share(most, random),
+            };
+            self.add(parent, share);
+        }
+    }
+
+    fn parent(&self, shape: Shape, random: &mut Random) -> Option<usize> {
+        let rows = self.rows.len();
+        let wish = match shape {
+            Shape::Flat => 0,
+            Shape::Chain => rows - 1,
+            Shape::Deep if !random.one_in(3) => rows - 1,
+            Shape::Wide => random.below(rows.min(4)),
+            _ => random.below(rows),
+        };
+        if self.can_be_parent(wish) {
+            return Some(wish);
+        }
+        let others: Vec<usize> = (0..rows).filter(|r| self.can_be_parent(*r)).collect();
+        (!others.is_empty()).then(|| random.pick(&others))
+    }
+
+    fn can_be_parent(&self, row: usize) -> bool {
+        self.depths[row] < MOST_DEPTH && self.left[row] > 0
+    }
+
+    /// Gives all that is left of each parent to further classes below it.
+    fn fill(&mut self) {
+        for row in 0..self.rows.len() {
+            let begun = self.left[row] < WHOLE;
+            while begun && self.left[row] > 0 && self.rows.len() < MOST_ROWS {
+                self.add(row, greatest_share(self.left[row]));
+            }
+        }
+    }
+}
+
+/// What the next of so many classes may have, so that something is left for each; if
+/// shares are to be spread, not much more than its part.
+fn most_of_flat(left: u32, to_come: u32, spread: bool) -> u32 {
+    let part = if spread { 3 * left / to_come } else { left };
+    part.min(left - (to_come - 1))
+}
+
+pub fn allowed_shares() -> Vec<u32> {
+    (1..=WHOLE).filter(|s| is_allowed(*s)).collect()
+}
+
+/// The greatest allowed share up to this number, which must not be 0.
+pub fn greatest_share(most: u32) -> u32 {
+    let fits = (1..=most.min(WHOLE)).rev().find(|s| is_allowed(*s));
+    fits.unwrap_or(1)
+}
+
+fn random_share(most: u32, random: &mut Random) -> u32 {
+    let wish = match random.below(4) {
+        0 => most,
+        1 => most / random.between(2, 6) as u32,
+        2 => random.below(WHOLE as usize) as u32,
+        _ => random.between(1, most as usize) as u32,
+    };
+    greatest_share(wish.clamp(1, most))
+}
+
+/// Distinct identifiers for a full table: small, large, of many lengths or any.
+fn identifiers(random: &mut Random) -> Vec<u32> {
+    let style = random.below(5);
+    let mut used = BTreeSet::new();
+    let mut names = Vec::new();
+    while names.len() < MOST_ROWS {
+        let name = match style {
+            0 => names.len() as u32 + 1,
+            1 => u32::MAX - names.len() as u32,
+            2 => random.between(1, 999) as u32,
+            3 => near_power_of_ten(random),
+            _ => random.word(),
+        };
+        if name != 0 && used.insert(name) {
+            names.push(name);
+        }
+    }
+    names
+}
+
+/// Goes round below 0, so that the largest numbers come up too.
+fn near_power_of_ten(random: &mut Random) -> u32 {
+    let power = 10_u32.pow(random.below(10) as u32);
+    let beside = random.below(120) as u32;
+    power.wrapping_add(beside).wrapping_sub(60)
+}
+
+/// An identifier that no row has.
+pub fn fresh_identifier(rows: &[Row], random: &mut Random) -> u32 {
+    loop {
+        let name = match random.below(3) {
+            0 => near_power_of_ten(random),
+            _ => random.word(),
+        };
+        if name != 0 && rows.iter().all(|r| r.identifier != name) {
+            return name;
+        }
+    }
+}
+
+#[cfg(test)]
+mod tests {
+    use std::collections::BTreeMap;
+
+    use super::*;
+    use crate::Case;
+
+    fn tables(shape: Shape) -> impl Iterator<Item = Vec<Row>> {
+        (0..200).map(move |list| random_table(shape, 840, &mut Random::new(1, list)))
+    }
+
+    fn depths(rows: &[Row]) -> Vec<usize> {
+        let mut depths = vec![0];
+        for row in &rows[1..] {
+            let above = rows.iter().position(|r| r.identifier == row.parent);
+            depths.push(depths[above.expect("a class has a parent")] + 1);
+        }
+        depths
+    }
+
+    /// For each row with children, what their shares add up to.
+    fn sums(rows: &[Row]) -> Vec<u32> {
+        let mut sums = BTreeMap::new();
+        for row in &rows[1..] {
+            *sums.entry(row.parent).or_insert(0) += row.share;
+        }
+        sums.into_values().collect()
+    }
+
+    #[test]
+    fn every_table_is_accepted() {
+        for shape in SHAPES {
+            for rows in tables(shape) {
+                let events = Vec::new();
+                assert_eq!(Case { rows, events }.answer().number, 0, "{shape:?}");
+            }
+        }
+    }
+
+    #[test]
+    fn there_are_95_shares_and_each_can_come_first() {
+        let shares = allowed_shares();
+        assert_eq!(shares.len(), 95);
+        for share in shares {
+            let rows = random_table(Shape::Any, share, &mut Random::new(1, 1));
+            assert_eq!(rows[1].share, share);
+        }
+    }
+
+    #[test]
+    fn two_and_256_rows_come_up() {
+        assert!(tables(Shape::Two).all(|rows| rows.len() == 2));
+        assert!(tables(Shape::Full).all(|rows| rows.len() == 256));
+    }
+
+    #[test]
+    fn chains_and_deep_tables_reach_depth_8() {
+        for shape in [Shape::Chain, Shape::Deep] {
+            let deepest = tables(shape).flat_map(|rows| depths(&rows)).max();
+            assert_eq!(deepest, Some(8));
+        }
+    }
+
+    #[test]
+    fn some_tables_are_filled_and_some_are_not() {
+        for shape in [Shape::Flat, Shape::Deep, Shape::Wide, Shape::Any] {
+            let filled = |rows: Vec<Row>| sums(&rows).iter().all(|sum| *sum == WHOLE);
+            let seen: BTreeSet<bool> = tables(shape).map(filled).collect();
+            assert_eq!(seen.len(), 2, "{shape:?}");
+        }
+    }
+
+    #[test]
+    fn the_largest_identifier_comes_up() {
+        let is_largest = |row: &Row| row.identifier == u32::MAX;
+        assert!(tables(Shape::Any).flatten().any(|row| is_largest(&row)));
+    }
+}
