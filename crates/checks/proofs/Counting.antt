@@ -4,6 +4,7 @@ use Prim.Native.Nat.{ℕ, zero, suc, _<_}
 use mathlib.Core.Path.{_≡_, refl, sym, _∙_, ap}
 use mathlib.Core.List.{[], _∷_}
 use native.Mathlib.Decide.{ℕ-discrete}
+use lib.ListN.{length}
 use Rattle.input.specs.declared.Refusal.{Refusal}
 use Rattle.input.specs.Classes.{Table, Tree, tree-of}
 use Rattle.input.specs.Events.{Events, count, length-word, event}
@@ -54,7 +55,7 @@ module _ (table : Table) (events : Events) (room : Room) where
   pub rules-split : refused table events room ≡ or-else lengths (or-else (table-refused table) by-counting)
   unfolding refused lengths-refused first
   rules-split =
-      first-append (rows-refused table ∷ events-refused events ∷ room-refused table events room ∷ [])
+      first-append (rows-refused table ∷ events-refused events ∷ room-refused (length (table .identifiers)) (count events) room ∷ [])
       (table-refused table ∷ first-below (event-refused (tree-of table) events) (count events) ∷ [])
       ∙ go (ℕ-discrete (lengths .number) 0) (ℕ-discrete (table-refused table .number) 0)
     where

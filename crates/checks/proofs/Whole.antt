@@ -1,26 +1,30 @@
 -- A whole input: the refusal by the parts that were looked at, and what is known where a part does not refuse.
 -- Assumes nothing.
-use Prim.Native.Nat.{_≤_}
+use Prim.Native.Nat.{ℕ, _≤_}
 use mathlib.Core.Path.{_≡_, refl, sym, _∙_}
 use mathlib.Core.Bool.{Bool, true, false, cond, not}
 use mathlib.Core.Logic.{_≢_}
+use mathlib.Core.List.{List}
 use mathlib.Mathlib.Data.Bool.Basic.{or-eq-false-eq-eq-false-and-eq-false as or-is-false}
 use lib.Dec.{eqb, ltb}
 use lib.ListN.{length}
-use borrow.Author.Tests.{eqb-true, ltb-false, not-false}
+use borrow.Author.Tests.{eq-eqb, ne-eqb, eqb-true, ltb-false, not-false}
 use Rattle.input.specs.declared.Refusal.{Refusal}
 use Rattle.input.specs.Limits.{most-events}
 use Rattle.input.specs.Classes.{Table, Tree, tree-of}
 use Rattle.input.specs.Events.{Events, count}
+use Rattle.input.specs.EventRows.{rows-for}
 use Rattle.input.specs.Refusals.{Room, nothing, or-else, first-below, rows-refused, events-refused, table-refused}
 use Rattle.rules.specs.Refused.{refused}
 use Rattle.laws.proofs.tree.Trees.{first-none, given-none}
+use Rattle.tables.specs.declared.Reading.{Reading}
 use Rattle.tables.specs.Sized.{Sized}
 use Rattle.tables.specs.Answers.{senders-below, accepting, refusing, answer}
-use Rattle.checks.specs.Counted.{counted-refused, lengths-refused}
+use Rattle.checks.specs.declared.Checked.{Checked}
+use Rattle.checks.specs.Counted.{counted-refused, lengths-refused, stopping, checked}
 use Rattle.tables.proofs.Firsts.{or-else-first, or-else-second, table-plain}
 use Rattle.checks.proofs.Counting.{rules-split}
-use Rattle.tables.proofs.Answering.{sized, answer-accepts}
+use Rattle.tables.proofs.Answering.{sized, answer-accepts, answer-refuses}
 
 -- an answer has the refusal that it is made of
 pub answer-refusal : (refusal : Refusal) (tree : Tree) → answer refusal tree .refusal ≡ refusal
@@ -67,6 +71,21 @@ module _ (table : Table) (events : Events) (room : Room) where
 
   pub by-none : lengths .number ≡ 0 → table-refused table .number ≡ 0 → listed .number ≡ 0 → refused table events room ≡ table-refused table
   by-none none fine passed = past-table none fine ∙ or-else-second listed nothing passed ∙ sym (table-plain table fine)
+
+  -- ── the answer ──
+
+  module _ (refusal : Refusal) (found : refused table events room ≡ refusal) where
+    pub checked-stops : refusal .number ≢ 0 → stopping refusal ≡ checked table events room
+    unfolding checked stopping
+    checked-stops some = rw (found, answer-refuses refusal (tree-of table) some, ne-eqb (refusal .number) 0 some) refl
+
+    pub checked-whole : refusal .number ≡ 0 → (reading : Reading) (rows : List ℕ) → reading ≡ answer refusal (tree-of table)
+        → rows ≡ rows-for (tree-of table) events (count events)
+        → _≡_ {A = Checked} (record { reading = reading; «event_rows» = rows }) (checked table events room)
+    unfolding checked
+    checked-whole none reading rows read placed = rw (found, eq-eqb (refusal .number) 0 none, read, placed) refl
+
+  -- ── what is known where the lengths are accepted ──
 
   pub whole-rows : lengths .number ≡ 0 → rows-refused table .number ≡ 0
   unfolding lengths-refused

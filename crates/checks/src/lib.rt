@@ -1,29 +1,40 @@
-// The checks of a whole input: refusals of the slices' lengths, of a class table and of an event list. They write nothing that is lent.
+// The checks of a whole input: refusals of the slices' lengths, of a class table and of an event list, and the row that each event is
+// for. They write nothing that is lent.
 ghost use mathlib.Core.Path.{_≡_};
 ghost use mathlib.Core.Bool.{Bool};
 ghost use Prim.Native.Nat.{ℕ, _≤_, _<_, _^_};
-ghost use lib.ListN.{length};
 ghost use lib.ListN as lists;
 ghost use Rattle.input.specs.declared.Event.the-variants.{Arrival, Finish};
 ghost use Rattle.input.specs.Limits.{most-rows, most-events};
 ghost use Rattle.input.specs.Classes.{Tree};
-ghost use Rattle.input.specs.Events.{decode};
-ghost use Rattle.rules.specs.Promise.{one-arrival, one-finish};
-ghost use Rattle.input.specs.Refusals.{first-below, events-refused, meeting-refused};
+ghost use Rattle.input.specs.Refusals.{events-refused, room-refused, packet-refused};
 ghost use Rattle.input.specs.Lent.{table-of, events-of, room-with};
-ghost use Rattle.checks.specs.Counted.{room-refusal, lengths-refused, packet-refusal, counted-refused, checked, Known};
+ghost use Rattle.rules.specs.Promise.{one-arrival, one-finish};
+ghost use Rattle.checks.specs.Counted.{ChecksLengths, Known, Meets, MeetsAll, stopping, Checks};
 use input::Event;
+use input::EventRows;
 use input::Refusal;
+use input::RowMarks;
 use tables::Reading;
 
-const MOST_EVENTS: usize = 65536;
+// An event as it is checked: what refuses it, and where nothing does the row that it is for.
+struct EventCheck {
+    refusal: Refusal,
+    row: u8,
+}
 
-const LEAST_BYTES: u32 = 1;
+// The list of events as it is checked: the first refusal, and where there is none the row that each event is for.
+struct ListCheck {
+    refusal: Refusal,
+    rows: EventRows,
+}
 
-const MOST_BYTES: u32 = 2048;
-
-// Words of the report for a row.
-const REPORT_WORDS: usize = 5;
+// What the check of a whole input answers: the first refusal, and where there is none the table as it was read, and for each event
+// the row of its class, 0 for a finish; all zero where something is refused.
+pub struct Checked {
+    pub reading: Reading,
+    pub event_rows: EventRows,
+}
 
 // 2: the event slices are unequal, or there are too many events.
 fn events_refused(classes: &[u32], lengths: &[u32]) -> Refusal
@@ -32,7 +43,7 @@ fn events_refused(classes: &[u32], lengths: &[u32]) -> Refusal
     if lengths.len() != classes.len() {
         return tables::refusal(2, 0, 0);
     }
-    if MOST_EVENTS < classes.len() {
+    if input::MOST_EVENTS < classes.len() {
         return tables::refusal(2, 0, 0);
     }
     tables::none()
@@ -48,7 +59,7 @@ fn room_refused(
     working: usize,
 ) -> Refusal
     requires { ⌜ rows < 2 ^ 61 ⌝ }
-    ensures { λ r. ⌜ r ≡ room-refusal rows events (room-with order report lags working) ⌝ }
+    ensures { λ r. ⌜ r ≡ room-refused rows events (room-with order report lags working) ⌝ }
 {
     if order < events {
         return tables::refusal(3, 0, 0);
@@ -56,7 +67,7 @@ fn room_refused(
     if working < events {
         return tables::refusal(3, 0, 0);
     }
-    if report < REPORT_WORDS * rows {
+    if report < input::REPORT_WORDS * rows {
         return tables::refusal(3, 0, 0);
     }
     if lags < rows {
@@ -77,8 +88,8 @@ pub fn check_lengths(
     lags: usize,
     working: usize,
 ) -> Refusal
-    ensures { λ r. ⌜ r ≡ lengths-refused (table-of (now (identifiers .entry)) (now («parent_identifiers» .entry)) (now (shares .entry)))
-        (events-of (now (classes .entry)) (now (lengths .entry))) (room-with order report lags working) ⌝ }
+    ensures { λ r. ⌜ ChecksLengths (table-of (now (identifiers .entry)) (now («parent_identifiers» .entry)) (now (shares .entry)))
+        (events-of (now (classes .entry)) (now (lengths .entry))) (room-with order report lags working) r ⌝ }
 {
     let rows = tables::rows_refused(identifiers, parent_identifiers, shares);
     let events = events_refused(classes, lengths);
@@ -91,16 +102,6 @@ pub fn check_lengths(
         working,
     );
     tables::or_else(rows, tables::or_else(events, room))
-}
-
-// What the two words of an event mean.
-pub fn decode(class: u32, length: u32) -> Event
-    ensures { λ r. ⌜ r ≡ decode class length ⌝ }
-{
-    if class == 0 {
-        return Event::Finish;
-    }
-    Event::Arrival { class, length }
 }
 
 // 1 for an arrival.
@@ -132,93 +133,119 @@ fn one_finish(event: Event) -> usize
 // A packet for a class that is there: 12, 13.
 fn packet_refused(i: usize, sending: bool, length: u32) -> Refusal
     requires { ⌜ i < most-events ⌝ }
-    ensures { λ r. ⌜ r ≡ packet-refusal i sending length ⌝ }
+    ensures { λ r. ⌜ r ≡ packet-refused i sending length ⌝ }
 {
     if !sending {
         return tables::refusal(12, i, 0);
     }
-    if length < LEAST_BYTES {
+    if length < input::LEAST_BYTES {
         return tables::refusal(13, i, 0);
     }
-    if MOST_BYTES < length {
+    if input::MOST_BYTES < length {
         return tables::refusal(13, i, 0);
     }
     tables::none()
 }
 
 // An arrival: 11, 12, 13.
-fn arrival_refused(
+fn check_arrival(
     identifiers: &[u32],
-    senders: &[bool; 256],
+    senders: &RowMarks,
     i: usize,
     class: u32,
     length: u32,
-) -> Refusal
+) -> EventCheck
     requires { ⌜ (lists.length (now identifiers) ≤ most-rows) × (i < most-events) ⌝ }
-    ensures { λ f. ⌜ ((tree : Tree) (word : ℕ) (idle : Bool) → Known tree (now (identifiers .entry)) (now (senders .entry))
-        → f ≡ meeting-refused tree i word (Arrival class length) idle) ⌝ }
+    ensures { λ r. ⌜ ((tree : Tree) (word : ℕ) (idle : Bool) → Known tree (now (identifiers .entry)) (now (senders .entry))
+        → Meets tree i word (Arrival class length) idle r) ⌝ }
 {
     let row = tables::row_of(identifiers, class);
     if row == identifiers.len() {
-        return tables::refusal(11, i, 0);
+        return EventCheck {
+            refusal: tables::refusal(11, i, 0),
+            row: 0,
+        };
     }
-    packet_refused(i, senders[row], length)
+    EventCheck {
+        refusal: packet_refused(i, senders[row], length),
+        row: row as u8,
+    }
 }
 
 // A finish: 13, 14.
-fn finish_refused(i: usize, word: u32, idle: bool) -> Refusal
+fn check_finish(i: usize, word: u32, idle: bool) -> EventCheck
     requires { ⌜ i < most-events ⌝ }
-    ensures { λ f. ⌜ ((tree : Tree) → f ≡ meeting-refused tree i word Finish idle) ⌝ }
+    ensures { λ r. ⌜ ((tree : Tree) → Meets tree i word Finish idle r) ⌝ }
 {
     let wrong = tables::given(word != 0, 13, i);
     let early = tables::given(idle, 14, i);
-    tables::or_else(wrong, early)
+    EventCheck {
+        refusal: tables::or_else(wrong, early),
+        row: 0,
+    }
 }
 
 // An event at place i, with its length word, where the line is idle or not.
-fn event_refused(
+fn check_event(
     identifiers: &[u32],
-    senders: &[bool; 256],
+    senders: &RowMarks,
     i: usize,
     word: u32,
     event: Event,
     idle: bool,
-) -> Refusal
-    requires { ⌜ (length (now identifiers) ≤ most-rows) × (i < most-events) ⌝ }
-    ensures { λ f. ⌜ ((tree : Tree) → Known tree (now (identifiers .entry)) (now (senders .entry)) → f ≡ meeting-refused tree i word event idle) ⌝ }
+) -> EventCheck
+    requires { ⌜ (lists.length (now identifiers) ≤ most-rows) × (i < most-events) ⌝ }
+    ensures { λ r. ⌜ ((tree : Tree) → Known tree (now (identifiers .entry)) (now (senders .entry)) → Meets tree i word event idle r) ⌝ }
 {
     match event {
-        Event::Arrival { class, length } => arrival_refused(identifiers, senders, i, class, length),
-        Event::Finish => finish_refused(i, word, idle),
+        Event::Arrival { class, length } => check_arrival(identifiers, senders, i, class, length),
+        Event::Finish => check_finish(i, word, idle),
     }
 }
 
 // Event by event, 11 to 14. The line is idle where as many finishes as arrivals came before.
-fn list_refused(
+fn check_list(
     identifiers: &[u32],
-    senders: &[bool; 256],
+    senders: &RowMarks,
     classes: &[u32],
     lengths: &[u32],
-) -> Refusal
-    requires { ⌜ (length (now identifiers) ≤ most-rows) × (length (now classes) ≤ most-events) × (length (now lengths) ≡ length (now classes)) ⌝ }
-    ensures { λ f. ⌜ ((tree : Tree) → Known tree (now (identifiers .entry)) (now (senders .entry))
-        → f ≡ first-below (counted-refused tree (events-of (now (classes .entry)) (now (lengths .entry)))) (length (now (classes .entry)))) ⌝ }
+) -> ListCheck
+    requires { ⌜ (lists.length (now identifiers) ≤ most-rows) × (lists.length (now classes) ≤ most-events)
+        × (lists.length (now lengths) ≡ lists.length (now classes)) ⌝ }
+    ensures { λ r. ⌜ ((tree : Tree) → Known tree (now (identifiers .entry)) (now (senders .entry))
+        → MeetsAll tree (events-of (now (classes .entry)) (now (lengths .entry))) r) ⌝ }
 {
+    let mut rows = [0u8; input::MOST_EVENTS];
     let mut arrivals = 0;
     let mut finishes = 0;
     let mut i = 0;
     while i < classes.len() {
         let word = lengths[i];
-        let event = decode(classes[i], word);
-        let refusal = event_refused(identifiers, senders, i, word, event, arrivals <= finishes);
+        let event = input::decode(classes[i], word);
+        let check = check_event(identifiers, senders, i, word, event, arrivals <= finishes);
+        let refusal = check.refusal;
         if refusal.number != 0 {
-            return refusal;
+            return ListCheck { refusal, rows };
         }
+        rows[i] = check.row;
         arrivals += one_arrival(event);
         finishes += one_finish(event);
         i += 1;
     }
-    tables::none()
+    ListCheck {
+        refusal: tables::none(),
+        rows,
+    }
+}
+
+// A refusal, and nothing else.
+fn stopping(refusal: Refusal) -> Checked
+    ensures { λ r. ⌜ r ≡ stopping refusal ⌝ }
+{
+    Checked {
+        reading: tables::refusing(refusal),
+        event_rows: [0u8; input::MOST_EVENTS],
+    }
 }
 
 // The check of a whole input.
@@ -232,9 +259,9 @@ pub fn check(
     report: usize,
     lags: usize,
     working: usize,
-) -> Reading
-    ensures { λ r. ⌜ r ≡ checked (table-of (now (identifiers .entry)) (now («parent_identifiers» .entry)) (now (shares .entry)))
-        (events-of (now (classes .entry)) (now (lengths .entry))) (room-with order report lags working) ⌝ }
+) -> Checked
+    ensures { λ r. ⌜ Checks (table-of (now (identifiers .entry)) (now («parent_identifiers» .entry)) (now (shares .entry)))
+        (events-of (now (classes .entry)) (now (lengths .entry))) (room-with order report lags working) r ⌝ }
 {
     let unfit = check_lengths(
         identifiers,
@@ -248,17 +275,22 @@ pub fn check(
         working,
     );
     if unfit.number != 0 {
-        return tables::refusing(unfit);
+        return stopping(unfit);
     }
     let reading = tables::read_sized(identifiers, parent_identifiers, shares);
     let bad = reading.refusal;
     if bad.number != 0 {
-        return reading;
+        return stopping(bad);
     }
     let senders = reading.senders;
-    let refusal = list_refused(identifiers, &senders, classes, lengths);
+    let list = check_list(identifiers, &senders, classes, lengths);
+    let refusal = list.refusal;
     if refusal.number != 0 {
-        return tables::refusing(refusal);
+        return stopping(refusal);
     }
-    reading
+    let event_rows = list.rows;
+    Checked {
+        reading,
+        event_rows,
+    }
 }

@@ -63,18 +63,6 @@ fn part(words: &[u32], from: usize, to: usize) -> &[u32] {
     &words[from..to]
 }
 
-fn wide(n: u32) -> usize {
-    n as usize
-}
-
-// 0 past the end.
-fn word(words: &[u32], i: usize) -> usize {
-    if i < words.len() {
-        return wide(words[i]);
-    }
-    0
-}
-
 // The check of a whole input, or of its lengths alone.
 fn checked(
     identifiers: &[u32],
@@ -85,10 +73,10 @@ fn checked(
     room: &[u32],
     alone: bool,
 ) -> Refusal {
-    let order = word(room, 0);
-    let report = word(room, 1);
-    let lags = word(room, 2);
-    let working = word(room, 3);
+    let order = words::wide(words::word(room, 0));
+    let report = words::wide(words::word(room, 1));
+    let lags = words::wide(words::word(room, 2));
+    let working = words::wide(words::word(room, 3));
     if alone {
         return checks::check_lengths(
             identifiers,
@@ -102,7 +90,7 @@ fn checked(
             working,
         );
     }
-    let reading = checks::check(
+    let check = checks::check(
         identifiers,
         parents,
         shares,
@@ -113,6 +101,7 @@ fn checked(
         lags,
         working,
     );
+    let reading = check.reading;
     reading.refusal
 }
 
@@ -129,7 +118,7 @@ fn ask_check(words: &[u32], ends: [usize; 7], alone: bool) {
 }
 
 fn print_row(reading: Reading, r: usize) {
-    if r < 256 {
+    if r < input::MOST_ROWS {
         let parents = reading.parents;
         let depths = reading.depths;
         let shares = reading.shares;
@@ -150,7 +139,7 @@ fn print_row(reading: Reading, r: usize) {
 fn print_rows(reading: Reading, rows: &[u32]) {
     let mut i = 0;
     while i < rows.len() {
-        print_row(reading, word(rows, i));
+        print_row(reading, words::wide(rows[i]));
         i += 1;
     }
 }
@@ -174,7 +163,7 @@ fn ask_row(words: &[u32], ends: [usize; 7], class: u32) {
 }
 
 fn ask_event(class: u32, length: u32) {
-    match checks::decode(class, length) {
+    match input::decode(class, length) {
         Event::Arrival { class, length } => {
             io::write_all(1, b"arrival");
             number(class);

@@ -1,4 +1,4 @@
--- What the functions' proofs share, and those of the steps up the tree.
+-- What the proofs of a row's steps cite, and those of the steps up the tree.
 pub mod Parts
 pub mod Scan
 pub mod Ticks

@@ -11,14 +11,14 @@ use Rattle.rules.specs.declared.Why.the-variants.{Finished, Arrived}
 use Rattle.input.specs.Classes.{Tree, child}
 use Rattle.rules.specs.Box.{Rows, has-head}
 use Rattle.rules.specs.Steps.{waits, eligible, least, raised, pick, next-start}
-use Rattle.choosing.specs.Arrays.{headed, waiting, ready, raised-of, next-start-of}
+use Rattle.choosing.specs.Arrays.{has-head-of, waits-of, eligible-of, raised-of, next-start-of}
 
-pub ready-waiting : (parents starts heads : List ℕ) (p v r : ℕ)
-    → ready parents starts heads p v r ≡ waiting parents heads p r && leb (getD starts r 0) v
+pub eligible-waits : (parents starts heads : List ℕ) (p v r : ℕ)
+    → eligible-of parents starts heads p v r ≡ waits-of parents heads p r && leb (getD starts r 0) v
 unfolding eligible waits child has-head
-ready-waiting parents starts heads p v r = refl
+eligible-waits parents starts heads p v r = refl
 
-pub head-part : (rows : Rows) (r : ℕ) → has-head rows r ≡ headed (rows .heads) r
+pub head-part : (rows : Rows) (r : ℕ) → has-head rows r ≡ has-head-of (rows .heads) r
 unfolding has-head
 head-part rows r = refl
 
@@ -30,7 +30,7 @@ module _ (tree : Tree) (rows : Rows) where
 
   pub pick-part : (p : ℕ)
       → pick tree rows p
-      ≡ least (ready (tree .parents) (rows .starts) (rows .heads) p (raised tree rows p)) (λ (i : ℕ). getD (rows .finishes) i 0) (tree .rows)
+      ≡ least (eligible-of (tree .parents) (rows .starts) (rows .heads) p (raised tree rows p)) (λ (i : ℕ). getD (rows .finishes) i 0) (tree .rows)
   unfolding pick eligible waits child has-head
   pick-part p = refl
 

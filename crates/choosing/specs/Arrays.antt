@@ -17,16 +17,16 @@ rows-of starts finishes virtuals heads head-lengths head-classes =
 abbrev pub Inside : List ℕ → Type 0
 Inside parents = (i : ℕ) → getD parents i 0 < most-rows
 
--- ── what reads some of the arrays alone: the others are left empty ──
+-- ── the rules' definitions, of those arrays alone that each reads: the others are left empty ──
 
-abbrev pub headed : List ℕ → ℕ → Bool
-headed heads r = has-head (rows-of [] [] [] heads [] []) r
+abbrev pub has-head-of : List ℕ → ℕ → Bool
+has-head-of heads r = has-head (rows-of [] [] [] heads [] []) r
 
-abbrev pub waiting : List ℕ → List ℕ → ℕ → ℕ → Bool
-waiting parents heads p r = waits (tree-with 0 [] parents [] []) (rows-of [] [] [] heads [] []) p r
+abbrev pub waits-of : List ℕ → List ℕ → ℕ → ℕ → Bool
+waits-of parents heads p r = waits (tree-with 0 [] parents [] []) (rows-of [] [] [] heads [] []) p r
 
-abbrev pub ready : List ℕ → List ℕ → List ℕ → ℕ → ℕ → ℕ → Bool
-ready parents starts heads p v r = eligible (tree-with 0 [] parents [] []) (rows-of starts [] [] heads [] []) p v r
+abbrev pub eligible-of : List ℕ → List ℕ → List ℕ → ℕ → ℕ → ℕ → Bool
+eligible-of parents starts heads p v r = eligible (tree-with 0 [] parents [] []) (rows-of starts [] [] heads [] []) p v r
 
 abbrev pub raised-of : ℕ → List ℕ → List ℕ → List ℕ → List ℕ → ℕ → ℕ
 raised-of rows parents starts virtuals heads p = raised (tree-with rows [] parents [] []) (rows-of starts [] virtuals heads [] []) p

@@ -2,7 +2,7 @@
 // among its children.
 //
 // What these functions require holds of every box. Rows and parents are rows that there can be, so no array is read outside. Lengths
-// are packets', and every tag has room for the ticks that its row is charged or passes, so no sum wraps.
+// are packets', and every tag has the leeway for the ticks that its row is charged or passes, so no sum wraps.
 ghost use mathlib.Core.Path.{_≡_};
 ghost use mathlib.Core.List.{List};
 ghost use Prim.Native.Nat.{ℕ, _+_, _<_, _≤_, _^_, max};
@@ -10,12 +10,12 @@ ghost use lib.ListN.{getD, set};
 ghost use Rattle.input.specs.Limits.{most-rows, most-bytes};
 ghost use Rattle.rules.specs.Steps as steps;
 ghost use Rattle.input.specs.Lent.{tree-with};
-ghost use Rattle.choosing.specs.Arrays.{rows-of, Inside, headed, waiting, ready, raised-of, next-start-of};
+ghost use Rattle.choosing.specs.Arrays.{rows-of, Inside, has-head-of, waits-of, eligible-of, raised-of, next-start-of};
 ghost use Rattle.choosing.specs.Sizes.{Leeway, most-charge, most-choice};
+use input::RowLongs;
+use input::RowWords;
+use input::TICKS;
 use rules::Why;
-
-// Ticks of virtual time to a byte.
-const TICKS: u64 = 840;
 
 fn larger(a: u64, b: u64) -> u64
     ensures { λ r. ⌜ r ≡ max a b ⌝ }
@@ -23,17 +23,17 @@ fn larger(a: u64, b: u64) -> u64
     if a < b { b } else { a }
 }
 
-pub fn has_head(heads: &[u32; 256], r: usize) -> bool
+pub fn has_head(heads: &RowWords, r: usize) -> bool
     requires { ⌜ r < most-rows ⌝ }
-    ensures { λ b. ⌜ b ≡ headed (now (heads .entry)) r ⌝ }
+    ensures { λ b. ⌜ b ≡ has-head-of (now (heads .entry)) r ⌝ }
 {
     heads[r] != 0
 }
 
 // Whether row r is a child of p with a head.
-fn waits(parents: &[u32; 256], heads: &[u32; 256], p: u32, r: usize) -> bool
+fn waits(parents: &RowWords, heads: &RowWords, p: u32, r: usize) -> bool
     requires { ⌜ r < most-rows ⌝ }
-    ensures { λ b. ⌜ b ≡ waiting (now (parents .entry)) (now (heads .entry)) p r ⌝ }
+    ensures { λ b. ⌜ b ≡ waits-of (now (parents .entry)) (now (heads .entry)) p r ⌝ }
 {
     if parents[r] != p {
         return false;
@@ -46,15 +46,15 @@ fn waits(parents: &[u32; 256], heads: &[u32; 256], p: u32, r: usize) -> bool
 
 // Whether it waits and its start is at most v.
 fn eligible(
-    parents: &[u32; 256],
-    starts: &[u64; 256],
-    heads: &[u32; 256],
+    parents: &RowWords,
+    starts: &RowLongs,
+    heads: &RowWords,
     p: u32,
     v: u64,
     r: usize,
 ) -> bool
     requires { ⌜ r < most-rows ⌝ }
-    ensures { λ b. ⌜ b ≡ ready (now (parents .entry)) (now (starts .entry)) (now (heads .entry)) p v r ⌝ }
+    ensures { λ b. ⌜ b ≡ eligible-of (now (parents .entry)) (now (starts .entry)) (now (heads .entry)) p v r ⌝ }
 {
     if waits(parents, heads, p, r) {
         starts[r] <= v
@@ -64,7 +64,7 @@ fn eligible(
 }
 
 // Of two rows, the second if it passes and its key is less; the first may be 0, which is no row.
-fn lesser(passes: bool, keys: &[u64; 256], best: usize, r: usize) -> usize
+fn lesser(passes: bool, keys: &RowLongs, best: usize, r: usize) -> usize
     requires { ⌜ best < most-rows ⌝ }
     requires { ⌜ r < most-rows ⌝ }
     ensures { λ k. ⌜ k ≡ steps.lesser (λ (i : ℕ). passes) (λ (i : ℕ). getD (now (keys .entry)) i 0) best r ⌝ }
@@ -79,64 +79,45 @@ fn lesser(passes: bool, keys: &[u64; 256], best: usize, r: usize) -> usize
     }
 }
 
-// The child of p that waits with the least start, 0 where none waits.
-fn least_start(
+// Of the children of p that are eligible at v the one with the least key, of equal ones the lowest row; 0 where none is.
+fn least(
     rows: usize,
-    parents: &[u32; 256],
-    starts: &[u64; 256],
-    heads: &[u32; 256],
-    p: u32,
-) -> usize
-    requires { ⌜ rows ≤ most-rows ⌝ }
-    ensures { λ k. ⌜ k ≡ steps.least (waiting (now (parents .entry)) (now (heads .entry)) p)
-        (λ (i : ℕ). getD (now (starts .entry)) i 0) rows ⌝ }
-{
-    let mut best = 0;
-    let mut i = 0;
-    while i < rows {
-        best = lesser(waits(parents, heads, p, i), starts, best, i);
-        i += 1;
-    }
-    best
-}
-
-// The child of p that is eligible at v with the least finish, 0 where none is.
-fn least_finish(
-    rows: usize,
-    parents: &[u32; 256],
-    starts: &[u64; 256],
-    finishes: &[u64; 256],
-    heads: &[u32; 256],
+    parents: &RowWords,
+    starts: &RowLongs,
+    keys: &RowLongs,
+    heads: &RowWords,
     p: u32,
     v: u64,
 ) -> usize
     requires { ⌜ rows ≤ most-rows ⌝ }
-    ensures { λ k. ⌜ k ≡ steps.least (ready (now (parents .entry)) (now (starts .entry)) (now (heads .entry)) p v)
-        (λ (i : ℕ). getD (now (finishes .entry)) i 0) rows ⌝ }
+    ensures { λ k. ⌜ k ≡ steps.least (eligible-of (now (parents .entry)) (now (starts .entry)) (now (heads .entry)) p v)
+        (λ (i : ℕ). getD (now (keys .entry)) i 0) rows ⌝ }
 {
     let mut best = 0;
     let mut i = 0;
     while i < rows {
-        best = lesser(eligible(parents, starts, heads, p, v, i), finishes, best, i);
+        best = lesser(eligible(parents, starts, heads, p, v, i), keys, best, i);
         i += 1;
     }
     best
 }
 
-// The virtual time of p, raised to the least start among its waiting children if it is lower.
+// The virtual time of p, raised to the least start among its waiting children if it is lower. At the highest number all that wait
+// are eligible, since their starts are numbers of 64 bits.
 fn raised(
     rows: usize,
-    parents: &[u32; 256],
-    starts: &[u64; 256],
-    virtuals: &[u64; 256],
-    heads: &[u32; 256],
+    parents: &RowWords,
+    starts: &RowLongs,
+    virtuals: &RowLongs,
+    heads: &RowWords,
     p: u32,
 ) -> u64
     requires { ⌜ rows ≤ most-rows ⌝ }
     requires { ⌜ p < most-rows ⌝ }
+    requires { ⌜ ((i : ℕ) → getD (now starts) i 0 < 2 ^ 64) ⌝ }
     ensures { λ v. ⌜ v ≡ raised-of rows (now (parents .entry)) (now (starts .entry)) (now (virtuals .entry)) (now (heads .entry)) p ⌝ }
 {
-    let first = least_start(rows, parents, starts, heads, p);
+    let first = least(rows, parents, starts, starts, heads, p, u64::MAX);
     let v = virtuals[p as usize];
     if first == 0 {
         return v;
@@ -147,9 +128,9 @@ fn raised(
 // Where the next packet of row r starts: at its finish if its last packet has just finished, else not before its parent's
 // virtual time.
 fn next_start(
-    parents: &[u32; 256],
-    finishes: &[u64; 256],
-    virtuals: &[u64; 256],
+    parents: &RowWords,
+    finishes: &RowLongs,
+    virtuals: &RowLongs,
     why: Why,
     r: usize,
 ) -> u64
@@ -165,9 +146,9 @@ fn next_start(
 
 // Row r has this head, of this length and class.
 pub fn set_head(
-    heads: &mut [u32; 256],
-    head_lengths: &mut [u32; 256],
-    head_classes: &mut [u32; 256],
+    heads: &mut RowWords,
+    head_lengths: &mut RowWords,
+    head_classes: &mut RowWords,
     r: usize,
     packet: u32,
     length: u32,
@@ -185,14 +166,14 @@ pub fn set_head(
 
 // Row r, which is not the root, gets a head and is charged for it.
 pub fn new_head(
-    parents: &[u32; 256],
-    shares: &[u32; 256],
-    starts: &mut [u64; 256],
-    finishes: &mut [u64; 256],
-    virtuals: &[u64; 256],
-    heads: &mut [u32; 256],
-    head_lengths: &mut [u32; 256],
-    head_classes: &mut [u32; 256],
+    parents: &RowWords,
+    shares: &RowWords,
+    starts: &mut RowLongs,
+    finishes: &mut RowLongs,
+    virtuals: &RowLongs,
+    heads: &mut RowWords,
+    head_lengths: &mut RowWords,
+    head_classes: &mut RowWords,
     why: Why,
     r: usize,
     packet: u32,
@@ -218,14 +199,14 @@ pub fn new_head(
 
 // Row p, whose virtual time is raised to v, takes its child k: k's head is p's too, and p's virtual time passes over it.
 fn takes(
-    parents: &[u32; 256],
-    shares: &[u32; 256],
-    starts: &mut [u64; 256],
-    finishes: &mut [u64; 256],
-    virtuals: &mut [u64; 256],
-    heads: &mut [u32; 256],
-    head_lengths: &mut [u32; 256],
-    head_classes: &mut [u32; 256],
+    parents: &RowWords,
+    shares: &RowWords,
+    starts: &mut RowLongs,
+    finishes: &mut RowLongs,
+    virtuals: &mut RowLongs,
+    heads: &mut RowWords,
+    head_lengths: &mut RowWords,
+    head_classes: &mut RowWords,
     why: Why,
     p: usize,
     k: usize,
@@ -247,7 +228,7 @@ fn takes(
     let packet = heads[k];
     let length = head_lengths[k];
     let class = head_classes[k];
-    virtuals[p] = v + TICKS * (length as u64);
+    virtuals[p] = v + (TICKS * length) as u64;
     if p == 0 {
         set_head(heads, head_lengths, head_classes, p, packet, length, class);
     } else {
@@ -272,14 +253,14 @@ fn takes(
 // Row p chooses; where no child has a head it has none, and its tags stay.
 pub fn chooses(
     rows: usize,
-    parents: &[u32; 256],
-    shares: &[u32; 256],
-    starts: &mut [u64; 256],
-    finishes: &mut [u64; 256],
-    virtuals: &mut [u64; 256],
-    heads: &mut [u32; 256],
-    head_lengths: &mut [u32; 256],
-    head_classes: &mut [u32; 256],
+    parents: &RowWords,
+    shares: &RowWords,
+    starts: &mut RowLongs,
+    finishes: &mut RowLongs,
+    virtuals: &mut RowLongs,
+    heads: &mut RowWords,
+    head_lengths: &mut RowWords,
+    head_classes: &mut RowWords,
     why: Why,
     p: u32,
 )
@@ -295,7 +276,7 @@ pub fn chooses(
         (now (heads .entry)) (now («head_lengths» .entry)) (now («head_classes» .entry)))) ⌝ }
 {
     let v = raised(rows, parents, starts, virtuals, heads, p);
-    let k = least_finish(rows, parents, starts, finishes, heads, p, v);
+    let k = least(rows, parents, starts, finishes, heads, p, v);
     if k == 0 {
         set_head(heads, head_lengths, head_classes, p as usize, 0, 0, 0);
     } else {

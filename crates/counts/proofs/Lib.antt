@@ -1,6 +1,2 @@
--- What the functions' proofs share.
-pub mod Paths
+-- What the rules' arrival and departure make of the counts.
 pub mod Steps
-pub mod Written
-pub mod Lags
-pub mod Signed

@@ -1,2 +1,2 @@
--- What the contracts cite.
-pub mod Given
+-- What the contracts of counting speak of beside the rules.
+pub mod Counts

@@ -17,9 +17,9 @@ use Rattle.input.specs.Events.{Events, count}
 use Rattle.input.specs.Refusals.{Room, nothing, first, first-below, rows-refused, events-refused, room-refused, root-refused, row-refused, shares-refused, table-refused}
 use Rattle.rules.specs.Refused.{refused}
 use Rattle.laws.specs.Sound.{Sound}
-use Rattle.laws.proofs.tree.Trees.{share-whole, or-none, first-none, below-none, given-none, place-most, read-rows, read-identifiers, parent-at, share-at, accepted}
+use Rattle.laws.proofs.tree.Trees.{share-whole, or-none, first-none, below-none, given-none, place-most, tree-rows, tree-names, parent-at, share-at, accepted}
 use Rattle.laws.proofs.event.Outset.{zeros-at}
-use Rattle.counts.specs.Given.{Sending}
+use Rattle.report.specs.Shown.{Sending}
 use Rattle.tables.specs.Sized.{Sized}
 use Rattle.tables.specs.Answers.{senders-below}
 use Rattle.checks.specs.Counted.{lengths-refused}
@@ -61,18 +61,10 @@ module _ (table : Table) where
   abbrev rows : ℕ
   rows = length (table .identifiers)
 
-  tree-rows : tree-of table .rows ≡ rows
-  unfolding tree-of
-  tree-rows = read-rows table rows
-
-  tree-names : tree-of table .identifiers ≡ table .identifiers
-  unfolding tree-of
-  tree-names = read-identifiers table rows
-
   -- the arrays of a table that was read are its tree
   pub same-tree : (parents depths shares : List ℕ) → parents ≡ tree-of table .parents → depths ≡ tree-of table .depths → shares ≡ tree-of table .shares
       → tree-at (table .identifiers) parents depths shares ≡ tree-of table
-  same-tree parents depths shares p d s = tree-parts (tree-of table) rows (table .identifiers) parents depths shares (sym tree-rows) (sym tree-names) p d s
+  same-tree parents depths shares p d s = tree-parts (tree-of table) rows (table .identifiers) parents depths shares (sym (tree-rows table)) (sym (tree-names table)) p d s
 
   module _ (few : rows ≤ most-rows) where
     parent-low : (r : ℕ) → r < rows → getD (tree-of table .parents) r 0 ≤ r
@@ -95,19 +87,19 @@ module _ (table : Table) where
     depths-low r = go (decLt r rows)
       where
         go : Dec (r < rows) → getD (tree-of table .depths) r 0 ≤ most-depth
-        go (yes low) = sound .shallow r (omega (arith, tree-rows))
+        go (yes low) = sound .shallow r (omega (arith, tree-rows table))
         go (no high) = omega (arith, depths-unread rows r (omega arith))
 
     shares-low : getD (table .shares) 0 0 ≡ 0 → (r : ℕ) → getD (tree-of table .shares) r 0 ≤ whole
     unfolding tree-of
     shares-low root zero =
-        let some : 0 < rows = omega (arith, tree-rows, sound .some-rows) in
-        let few : rows ≤ most-rows = omega (arith, tree-rows, sound .few-rows) in
+        let some : 0 < rows = omega (arith, tree-rows table, sound .some-rows) in
+        let few : rows ≤ most-rows = omega (arith, tree-rows table, sound .few-rows) in
         omega (arith, share-at table rows few 0 some)
     shares-low root (suc r) = go (decLt (suc r) rows)
       where
         go : Dec (suc r < rows) → getD (tree-of table .shares) (suc r) 0 ≤ whole
-        go (yes low) = share-whole (share (tree-of table) (suc r)) (sound .share-allowed (suc r) (omega arith) (omega (arith, tree-rows)))
+        go (yes low) = share-whole (share (tree-of table) (suc r)) (sound .share-allowed (suc r) (omega arith) (omega (arith, tree-rows table)))
         go (no high) = omega (arith, shares-unread rows (suc r) (omega arith))
 
 -- ── an input that is not refused ──
@@ -128,7 +120,7 @@ module _ (table : Table) (events : Events) (room : Room) (ok : refused table eve
   unfolding refused
   events-ok = first-none _ ok .1 .0
 
-  room-ok : room-refused table events room .number ≡ 0
+  room-ok : room-refused (length (table .identifiers)) (count events) room .number ≡ 0
   unfolding refused
   room-ok = first-none _ ok .1 .1 .0
 
@@ -139,7 +131,7 @@ module _ (table : Table) (events : Events) (room : Room) (ok : refused table eve
   lengths-ok : lengths-refused table events room .number ≡ 0
   unfolding lengths-refused first nothing
   lengths-ok =
-      rw (or-else-second (rows-refused table) _ rows-ok, or-else-second (events-refused events) _ events-ok, or-else-second (room-refused table events room) _ room-ok)
+      rw (or-else-second (rows-refused table) _ rows-ok, or-else-second (events-refused events) _ events-ok, or-else-second (room-refused (length (table .identifiers)) (count events) room) _ room-ok)
 
   whole-table : Sized table
   whole-table = sized table rows-ok

@@ -10,18 +10,21 @@ use borrow.Author.Tests.{eq-eqb, ne-eqb}
 use Rattle.input.specs.declared.Refusal.{Refusal}
 use Rattle.input.specs.Classes.{Table, Tree, tree-of}
 use Rattle.input.specs.Events.{Events, count}
+use Rattle.input.specs.EventRows.{rows-for}
 use Rattle.input.specs.Refusals.{Room}
 use Rattle.rules.specs.Refused.{refused}
-use Rattle.rules.specs.Outcome.{Lent, over, room-of, refusing, doing, outcome}
-use Rattle.counts.specs.Given.{Sending}
+use Rattle.rules.specs.Outcome.{Lent, over, room-of, refusing, doing, outcome, Ran}
+use Rattle.input.proofs.EventRows.{row-at}
+use Rattle.report.specs.Shown.{Sending}
 use Rattle.tables.specs.declared.Reading.{Reading}
+use Rattle.checks.specs.declared.Checked.{Checked}
 use Rattle.tables.specs.Answers.{accepting}
 use Rattle.checks.specs.Counted.{checked}
 use Rattle.tables.proofs.Answering.{answer-accepts}
 use Rattle.checks.proofs.Whole.{answer-refusal}
 use Rattle.input.specs.Lent.{tree-at}
 use Rattle.events.specs.State.{Fit}
-use Rattle.engine.specs.Served.{Served}
+use Rattle.engine.specs.Served.{RowsFor, Served}
 use Rattle.engine.specs.Run.{left-of}
 use Rattle.engine.proofs.Opening.{cleared-again}
 use Rattle.engine.proofs.Accepting.{same-tree, fit, sending, Roomy, roomy}
@@ -37,8 +40,7 @@ module _ (lent : Lent) where
   room = room-of lent
 
   refusal-outcome : (r : Refusal) → r ≡ refused table events room → r .number ≢ 0
-      → left-of (record { number = r .number; place = r .place; second = r .second; count = 0 }) (lent .order) (lent .report) (lent .lags) (lent .working)
-      ≡ outcome lent
+      → Ran lent (left-of (record { number = r .number; place = r .place; second = r .second; count = 0 }) (lent .order) (lent .report) (lent .lags) (lent .working))
   unfolding outcome refusing
   refusal-outcome r is some = rw (← is, ne-eqb (r .number) 0 some)
 
@@ -46,7 +48,7 @@ module _ (lent : Lent) where
       → refused table events room .number ≡ 0
       → Served tree events sent (lent .order) order (lent .report) report (lent .lags) lags (lent .working) used
       → working ≡ over (replicate (count events) 0) used
-      → left-of (record { number = 0; place = 0; second = 0; count = sent }) order report lags working ≡ outcome lent
+      → Ran lent (left-of (record { number = 0; place = 0; second = 0; count = sent }) order report lags working)
   unfolding outcome doing
   served-outcome tree sent order report lags used working same none served cleared =
       rw (
@@ -61,47 +63,56 @@ module _ (lent : Lent) where
 
   -- ── the check's answer ──
 
-  module _ (reading : Reading) (is : reading ≡ checked table events room) where
-    refusal-is : reading .refusal ≡ refused table events room
+  module _ (check : Checked) (is : check ≡ checked table events room) where
+    refusal-is : check .reading .refusal ≡ refused table events room
     unfolding checked
-    refusal-is = ap (λ (r : Reading). r .refusal) is ∙ answer-refusal (refused table events room) (tree-of table)
+    refusal-is = ap (λ (c : Checked). c .reading .refusal) is ∙ answer-refusal (refused table events room) (tree-of table)
 
-    pub refused-left : reading .refusal .number ≢ 0
-        → left-of (record { number = reading .refusal .number; place = reading .refusal .place; second = reading .refusal .second; count = 0 })
-        (lent .order) (lent .report) (lent .lags) (lent .working) ≡ outcome lent
-    refused-left some = refusal-outcome (reading .refusal) refusal-is some
+    pub refused-left : check .reading .refusal .number ≢ 0
+        → Ran lent
+        (left-of (record { number = check .reading .refusal .number; place = check .reading .refusal .place; second = check .reading .refusal .second; count = 0 })
+        (lent .order) (lent .report) (lent .lags) (lent .working))
+    refused-left some = refusal-outcome (check .reading .refusal) refusal-is some
 
-    module _ (none : reading .refusal .number ≡ 0) where
+    module _ (none : check .reading .refusal .number ≡ 0) where
       passed : refused table events room .number ≡ 0
       passed = rw refusal-is at none
 
-      accepts : reading ≡ accepting (refused table events room) (tree-of table)
+      accepts : check .reading ≡ accepting (refused table events room) (tree-of table)
       unfolding checked
-      accepts = is ∙ answer-accepts (refused table events room) (tree-of table) passed
+      accepts = ap (λ (c : Checked). c .reading) is ∙ answer-accepts (refused table events room) (tree-of table) passed
 
       -- the arrays are the table's tree
-      tree-is : tree-at (table .identifiers) (reading .parents) (reading .depths) (reading .shares) ≡ tree-of table
+      abbrev tree : Tree
+      tree = tree-at (table .identifiers) (check .reading .parents) (check .reading .depths) (check .reading .shares)
+
+      tree-is : tree ≡ tree-of table
       unfolding accepting
       tree-is =
-          same-tree table (reading .parents) (reading .depths) (reading .shares) (ap (λ (r : Reading). r .parents) accepts)
+          same-tree table (check .reading .parents) (check .reading .depths) (check .reading .shares) (ap (λ (r : Reading). r .parents) accepts)
           (ap (λ (r : Reading). r .depths) accepts) (ap (λ (r : Reading). r .shares) accepts)
 
-      pub fit-is : Fit (tree-at (table .identifiers) (reading .parents) (reading .depths) (reading .shares)) events
+      pub fit-is : Fit tree events
       fit-is = rw tree-is (fit table events room passed)
 
-      pub sending-is :
-          Sending (tree-at (table .identifiers) (reading .parents) (reading .depths) (reading .shares)) (length (table .identifiers)) (reading .senders)
+      pub sending-is : Sending tree (length (table .identifiers)) (check .reading .senders)
       unfolding accepting
       sending-is = rw (tree-is, ap (λ (r : Reading). r .senders) accepts) (sending table events room passed)
+
+      rows-are : check .«event_rows» ≡ rows-for (tree-of table) events (count events)
+      unfolding checked
+      rows-are = ap (λ (c : Checked). c .«event_rows») is ∙ rw (eq-eqb (refused table events room .number) 0 passed)
+
+      pub rows-for-is : RowsFor tree events (check .«event_rows»)
+      rows-for-is i below = rw (tree-is, rows-are) (row-at (tree-of table) events (count events) i below (fit-is .few))
 
       pub roomy-is : Roomy table events room
       roomy-is = roomy table events room passed
 
       pub served-left :
           (sent : ℕ) (order report : List ℕ) (lags : List ℤ) (used working : List ℕ)
-          → Served (tree-at (table .identifiers) (reading .parents) (reading .depths) (reading .shares)) events sent
-          (lent .order) order (lent .report) report (lent .lags) lags (lent .working) used
+          → Served tree events sent (lent .order) order (lent .report) report (lent .lags) lags (lent .working) used
           → working ≡ over (replicate (count events) 0) used
-          → left-of (record { number = 0; place = 0; second = 0; count = sent }) order report lags working ≡ outcome lent
+          → Ran lent (left-of (record { number = 0; place = 0; second = 0; count = sent }) order report lags working)
       served-left sent order report lags used working served cleared =
-          served-outcome (tree-at (table .identifiers) (reading .parents) (reading .depths) (reading .shares)) sent order report lags used working tree-is passed served cleared
+          served-outcome tree sent order report lags used working tree-is passed served cleared

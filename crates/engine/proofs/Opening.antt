@@ -1,13 +1,13 @@
 -- The run's first state and its last: arrays of zeros, a cleared working slice, and what is read of the box then.
 -- Assumes nothing.
-use Prim.Native.Nat.{ℕ, _<_}
+use Prim.Native.Nat.{ℕ, zero, suc, _^_, _<_}
 use mathlib.Core.Path.{_≡_, refl, sym, ap, _∙_}
 use mathlib.Core.List.{List, _++_}
 use native.Mathlib.Omega.{arith}
 use lib.ListN.{length, getD, drop, replicate, length-replicate, List·getD-append}
 use lib.Seq.{drop-append-seam}
 use Rattle.input.specs.Limits.{most-rows}
-use Rattle.input.specs.Classes.{Tree, zeros}
+use Rattle.input.specs.Classes.{Tree, zeros, parent}
 use Rattle.input.specs.Events.{Events, count}
 use Rattle.rules.specs.Box.{Rows, fresh}
 use Rattle.rules.specs.Steps.{after}
@@ -15,9 +15,13 @@ use Rattle.rules.specs.Outcome.{over}
 use Rattle.laws.proofs.event.Outset.{replicate-at, zeros-at, empty-queue}
 use Rattle.laws.proofs.tree.Trees.{zeros-full}
 use Rattle.choosing.specs.Arrays.{rows-of}
-use Rattle.counts.specs.Given.{Shown}
+use Rattle.laws.proofs.run.Sizes.{since-below, parent-since-below}
+use Rattle.counts.specs.Counts.{At-most}
+use Rattle.report.specs.Shown.{Shown}
+use Rattle.report.specs.Lags.{Past}
 use Rattle.events.specs.Links.{last-word, Chain}
-use Rattle.events.specs.State.{Now}
+use Rattle.events.specs.State.{Fit, Now}
+use Rattle.events.proofs.Fits.{bytes-small}
 
 -- ── a cleared slice ──
 
@@ -71,9 +75,23 @@ fresh-order tree events lent = refl
 
 -- ── after the last event ──
 
-module _ (tree : Tree) (events : Events) (n sent : ℕ) (a : Rows) (bytes held since parent-since lasts links : List ℕ)
-    (now : Now tree events n sent a bytes held since parent-since lasts links) where
-  pub shown : Shown (after tree events n) (a .starts) (a .finishes) (a .virtuals) bytes held
+past :
+    (tree : Tree) (events : Events) → Fit tree events
+    → Past (tree .rows) (tree .parents) (after tree events (count events) .bytes) (after tree events (count events) .since) (after tree events (count events) .parent-since)
+past tree events fit =
+    record {
+      own-grew = λ r inside. since-below tree events (count events) r (fit .accepted) inside;
+      above-grew = λ r inside. parent-since-below tree events (count events) r (fit .accepted) (above r inside) inside;
+    }
+  where
+    -- the root is its own parent
+    above : (r : ℕ) → r < tree .rows → parent tree r < tree .rows
+    above zero inside = omega (arith, fit .root)
+    above (suc r) inside = fit .accepted .sound .parent-row (suc r) (omega arith) inside
+
+module _ (tree : Tree) (events : Events) (sent : ℕ) (a : Rows) (bytes held since parent-since lasts links : List ℕ)
+    (now : Now tree events (count events) sent a bytes held since parent-since lasts links) where
+  pub shown : Shown (after tree events (count events)) (a .starts) (a .finishes) (a .virtuals) bytes held
   shown =
       record {
         starts = ap (λ (rows : Rows). rows .starts) (now .rows-are);
@@ -82,3 +100,10 @@ module _ (tree : Tree) (events : Events) (n sent : ℕ) (a : Rows) (bytes held s
         bytes = now .counts-are .bytes;
         held = now .counts-are .held;
       }
+
+  module _ (fit : Fit tree events) where
+    pub past-now : Past (tree .rows) (tree .parents) bytes since parent-since
+    past-now = rw (← now .counts-are .bytes, ← now .counts-are .since, ← now .counts-are .parent-since) (past tree events fit)
+
+    pub bytes-now : At-most (2 ^ 40) bytes
+    bytes-now r inside = rw (← now .counts-are .bytes) (bytes-small tree events fit (count events) (omega arith) r)

@@ -1,13 +1,18 @@
--- What serving the events of an input leaves.
-use Prim.Native.Nat.{ℕ}
+-- What serving the events of an input goes by, and what it leaves.
+use Prim.Native.Nat.{ℕ, _<_}
 use mathlib.Core.Path.{_≡_}
 use mathlib.Core.List.{List}
-use lib.ListN.{length, drop}
+use lib.ListN.{length, getD, drop}
 use lib.IntN.{ℤ}
 use Rattle.input.specs.Classes.{Tree}
-use Rattle.input.specs.Events.{Events, count}
+use Rattle.input.specs.Events.{Events, count, event}
+use Rattle.input.specs.EventRows.{row-for}
 use Rattle.rules.specs.Steps.{after}
 use Rattle.rules.specs.Outcome.{report-of, lags-of, over}
+
+-- the list has the row that each event is for
+abbrev pub RowsFor : Tree → Events → List ℕ → Type 0
+RowsFor tree events rows = (i : ℕ) → i < count events → getD rows i 0 ≡ row-for tree (event events i)
 
 -- after the last event: so many packets went on the line, the results are what the rules say, and of the working slice the words
 -- from the number of events on are as they were

@@ -1,25 +1,29 @@
 // The run: refusals first, then event by event, then the results.
-ghost use mathlib.Core.Path.{_≡_};
 ghost use Prim.Native.Nat.{_*_, _≤_};
 ghost use lib.ListN as lists;
 ghost use Rattle.input.specs.Limits.{report-words};
-ghost use Rattle.rules.specs.Outcome.{outcome};
-ghost use Rattle.counts.specs.Given.{Sending};
 ghost use Rattle.input.specs.Lent.{events-of, tree-at};
+ghost use Rattle.rules.specs.Outcome.{Ran};
+ghost use Rattle.report.specs.Shown.{Sending};
 ghost use Rattle.events.specs.State.{Fit};
-ghost use Rattle.engine.specs.Served.{Served};
+ghost use Rattle.engine.specs.Served.{RowsFor, Served};
 ghost use Rattle.engine.specs.Run.{lent-of, left-of};
 use input::Answer;
+use input::EventRows;
+use input::MOST_ROWS;
+use input::RowMarks;
+use input::RowWords;
 
 // An input that is not refused: its events in turn, and then the results. So many packets have gone on the line.
 fn serve(
     identifiers: &[u32],
     classes: &[u32],
     lengths: &[u32],
-    parents: &[u32; 256],
-    depths: &[u32; 256],
-    shares: &[u32; 256],
-    senders: &[bool; 256],
+    parents: &RowWords,
+    depths: &RowWords,
+    shares: &RowWords,
+    senders: &RowMarks,
+    event_rows: &EventRows,
     order: &mut [u32],
     report: &mut [u64],
     lags: &mut [i64],
@@ -27,6 +31,7 @@ fn serve(
 ) -> u32
     requires { ⌜ Fit (tree-at (now identifiers) (now parents) (now depths) (now shares)) (events-of (now classes) (now lengths)) ⌝
         ∗ ⌜ Sending (tree-at (now identifiers) (now parents) (now depths) (now shares)) (lists.length (now identifiers)) (now senders) ⌝
+        ∗ ⌜ RowsFor (tree-at (now identifiers) (now parents) (now depths) (now shares)) (events-of (now classes) (now lengths)) (now «event_rows») ⌝
         ∗ ⌜ lists.length (now classes) ≤ lists.length (now order) ⌝ ∗ ⌜ lists.length (now classes) ≤ lists.length (now working) ⌝ }
     requires { ⌜ report-words * lists.length (now identifiers) ≤ lists.length (now report) ⌝ ∗ ⌜ lists.length (now identifiers) ≤ lists.length (now lags) ⌝ }
     ensures { λ r. ⌜ Served (tree-at (now (identifiers .entry)) (now (parents .entry)) (now (depths .entry)) (now (shares .entry)))
@@ -34,28 +39,27 @@ fn serve(
         (now (order .entry)) (now (order .exit)) (now (report .entry)) (now (report .exit)) (now (lags .entry)) (now (lags .exit))
         (now (working .entry)) (now (working .exit)) ⌝ }
 {
-    let mut starts = [0u64; 256];
-    let mut finishes = [0u64; 256];
-    let mut virtuals = [0u64; 256];
-    let mut heads = [0u32; 256];
-    let mut head_lengths = [0u32; 256];
-    let mut head_classes = [0u32; 256];
-    let mut bytes = [0u64; 256];
-    let mut held = [0u32; 256];
-    let mut since = [0u64; 256];
-    let mut parent_since = [0u64; 256];
-    let mut lasts = [0u32; 256];
-    counts::clear(working, classes.len());
+    let mut starts = [0u64; MOST_ROWS];
+    let mut finishes = [0u64; MOST_ROWS];
+    let mut virtuals = [0u64; MOST_ROWS];
+    let mut heads = [0u32; MOST_ROWS];
+    let mut head_lengths = [0u32; MOST_ROWS];
+    let mut head_classes = [0u32; MOST_ROWS];
+    let mut bytes = [0u64; MOST_ROWS];
+    let mut held = [0u32; MOST_ROWS];
+    let mut since = [0u64; MOST_ROWS];
+    let mut parent_since = [0u64; MOST_ROWS];
+    let mut lasts = [0u32; MOST_ROWS];
+    queues::clear(working, classes.len());
     let mut sent = 0;
     let mut i = 0;
     while i < classes.len() {
         sent = events::step(
-            identifiers,
-            classes,
-            lengths,
+            identifiers.len(),
             parents,
             depths,
             shares,
+            lengths,
             &mut starts,
             &mut finishes,
             &mut virtuals,
@@ -67,14 +71,15 @@ fn serve(
             &mut since,
             &mut parent_since,
             &mut lasts,
-            order,
             working,
+            order,
             i,
+            event_rows[i],
             sent,
         );
         i += 1;
     }
-    counts::write_report(
+    report::write_report(
         identifiers.len(),
         senders,
         &starts,
@@ -84,7 +89,7 @@ fn serve(
         &held,
         report,
     );
-    counts::write_lags(
+    report::write_lags(
         identifiers.len(),
         parents,
         shares,
@@ -110,11 +115,12 @@ pub fn run(
     lags: &mut [i64],
     working: &mut [u32],
 ) -> Answer
-    ensures { λ r. ⌜ left-of r (now (order .exit)) (now (report .exit)) (now (lags .exit)) (now (working .exit))
-        ≡ outcome (lent-of (now (identifiers .entry)) (now («parent_identifiers» .entry)) (now (shares .entry)) (now (classes .entry)) (now (lengths .entry))
-        (now (order .entry)) (now (report .entry)) (now (lags .entry)) (now (working .entry))) ⌝ }
+    ensures { λ r. ⌜ Ran
+        (lent-of (now (identifiers .entry)) (now («parent_identifiers» .entry)) (now (shares .entry)) (now (classes .entry)) (now (lengths .entry))
+        (now (order .entry)) (now (report .entry)) (now (lags .entry)) (now (working .entry)))
+        (left-of r (now (order .exit)) (now (report .exit)) (now (lags .exit)) (now (working .exit))) ⌝ }
 {
-    let reading = checks::check(
+    let check = checks::check(
         identifiers,
         parent_identifiers,
         shares,
@@ -125,6 +131,7 @@ pub fn run(
         lags.len(),
         working.len(),
     );
+    let reading = check.reading;
     let refusal = reading.refusal;
     if refusal.number != 0 {
         return Answer {
@@ -138,6 +145,7 @@ pub fn run(
     let depths = reading.depths;
     let parts = reading.shares;
     let senders = reading.senders;
+    let event_rows = check.event_rows;
     let sent = serve(
         identifiers,
         classes,
@@ -146,13 +154,13 @@ pub fn run(
         &depths,
         &parts,
         &senders,
+        &event_rows,
         order,
         report,
         lags,
         working,
     );
-    let events = classes.len();
-    counts::clear(working, events);
+    queues::clear(working, classes.len());
     Answer {
         number: 0,
         place: 0,

@@ -1,7 +1,5 @@
--- The theorems that the proofs of an event rest on.
-pub mod Leaving
+-- What an event may take for granted in an accepted run, and that queues stay chains and the order goes on.
 pub mod Links
-pub mod Beyond
 pub mod Fits
 pub mod Sending
 pub mod Stepping

@@ -10,11 +10,10 @@ use lib.ListN.{length, getD, set, take, drop, length-set}
 use lib.Seq.{getD-set-same, getD-set-other, drop-set-lt}
 use Rattle.input.specs.Classes.{Tree, row-of}
 use Rattle.input.specs.Events.{Events, count, class-word, length-word}
-use Rattle.rules.specs.Box.{Packet, Box, queue-of}
+use Rattle.rules.specs.Box.{Packet, Box, queue-of, line-class}
 use Rattle.rules.specs.Steps.{arrival, departure}
 use Rattle.laws.specs.Sound.{Sound, Sender}
 use Rattle.laws.specs.Kept.{InLine, Kept}
-use Rattle.laws.specs.Line.{line-class}
 use Rattle.laws.proofs.event.Queues.{each-queue}
 use Rattle.hierarchy.specs.Next.{next-of}
 use Rattle.queues.specs.Words.{followed, shortened, length-of}
@@ -178,10 +177,10 @@ module _ (tree : Tree) (sound : Sound tree) (events : Events) (big : ℕ → ℕ
       })
 
   -- the first packet of the line's class leaves its queue
-  pub parted : (first : Packet) (later : List Packet) → Sender tree (line-class box) → queue-of box (line-class box) ≡ first ∷ later
+  pub first-left : (first : Packet) (later : List Packet) → Sender tree (line-class box) → queue-of box (line-class box) ≡ first ∷ later
       → Linked tree events (suc i) (departure tree box) (shortened lasts (line-class box) (first-word later)) links
   unfolding departure
-  parted first later sender queued =
+  first-left first later sender queued =
       let k = line-class box in
       rw queued
       (record {

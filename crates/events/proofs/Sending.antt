@@ -15,7 +15,7 @@ use Rattle.input.specs.Events.{Events, event}
 use Rattle.rules.specs.Box.{Rows, Box, fresh, head, has-head}
 use Rattle.rules.specs.Steps.{sent, arrival, departure, step, after}
 use Rattle.rules.specs.Outcome.{over}
-use Rattle.counts.proofs.Written.{over-more}
+use Rattle.rules.proofs.Over.{over-more}
 use Rattle.queues.specs.Words.{sent-word}
 
 -- ── words ──

@@ -9,6 +9,7 @@ use output::put_byte;
 use output::put_named;
 use output::put_number;
 use output::put_text;
+use output::put_word;
 use text::Found;
 use text::Kind;
 
@@ -52,7 +53,7 @@ fn put_fault(out: &mut [u8; 8192], sink: Sink, kind: Kind, found: Found) -> Sink
         Found::WrongHeading => put_heading(out, sink, kind),
         Found::WrongCount => put_columns(out, sink, kind),
         Found::NoNumber(place) => put_field(out, sink, place, b" is not a decimal number"),
-        Found::TooLarge(place) => put_field(out, sink, place, b" is over 4294967295"),
+        Found::TooLarge(place) => put_too_large(out, sink, place),
     }
 }
 
@@ -68,6 +69,11 @@ fn put_columns(out: &mut [u8; 8192], sink: Sink, kind: Kind) -> Sink {
         Kind::Table => put_text(out, sink, b"3 numbers are wanted"),
         Kind::Events => put_text(out, sink, b"2 numbers are wanted"),
     }
+}
+
+fn put_too_large(out: &mut [u8; 8192], sink: Sink, place: u32) -> Sink {
+    let sink = put_field(out, sink, place, b" is over ");
+    put_word(out, sink, u32::MAX)
 }
 
 fn put_field(out: &mut [u8; 8192], sink: Sink, place: u32, why: &[u8]) -> Sink {

@@ -1,4 +1,4 @@
--- The path from a row up to the root, a turn of a loop at a time: what remains at the next row is what remained at this one.
+-- The choices from a row up to the root, a turn of a loop at a time: what remains at the next row is what remained at this one.
 -- Assumes nothing.
 use Prim.Native.Nat.{ℕ, zero, suc, _-_, _<_}
 use mathlib.Core.Path.{_≡_, refl, sym, _∙_}
@@ -6,16 +6,14 @@ use mathlib.Core.Bool.{true, false}
 use mathlib.Core.List.{List}
 use native.Mathlib.Numerals.{sub-one}
 use native.Mathlib.Omega.{arith}
-use lib.ListN.{getD, set}
+use lib.ListN.{getD}
 use Rattle.rules.specs.declared.Why.{Why}
 use Rattle.input.specs.Classes.{Tree, parent}
 use Rattle.rules.specs.Box.{Rows, has-head}
-use Rattle.rules.specs.Steps.{chooses, up, on-path, along}
+use Rattle.rules.specs.Steps.{chooses, up}
 use Rattle.input.specs.Lent.{tree-with}
-use Rattle.choosing.specs.Arrays.{headed}
+use Rattle.choosing.specs.Arrays.{has-head-of}
 use Rattle.choosing.proofs.Parts.{head-part}
-
--- ── choosing ──
 
 module _ (tree : Tree) (why : Why) (r : ℕ) (rows : Rows) where
   up-done : (d : ℕ) → d ≡ 0 → up d tree why r rows ≡ rows
@@ -46,56 +44,18 @@ module _ (n : ℕ) (parents shares : List ℕ) (why : Why) (row depth : ℕ) (be
     pub rising-done : d ≡ 0 → (ids depths : List ℕ) → now ≡ up depth (tree-with n ids parents depths shares) why row before
     rising-done none ids depths = sym (up-done (tree-with n ids parents depths shares) why r now d none) ∙ rising .same ids depths
 
-    pub rising-stops : 0 < d → headed (now .heads) (getD parents r 0) ≡ true
+    pub rising-stops : 0 < d → has-head-of (now .heads) (getD parents r 0) ≡ true
         → (ids depths : List ℕ) → now ≡ up depth (tree-with n ids parents depths shares) why row before
     rising-stops some has ids depths =
-        let whole = tree n ids parents depths shares in
+        let whole = tree-with n ids parents depths shares in
         sym (up-stops whole why r now d some (head-part now (getD parents r 0) ∙ has)) ∙ rising .same ids depths
 
-    pub rising-goes : (next : Rows) → 0 < d → headed (now .heads) (getD parents r 0) ≡ false
+    pub rising-goes : (next : Rows) → 0 < d → has-head-of (now .heads) (getD parents r 0) ≡ false
         → ((ids depths : List ℕ) → next ≡ chooses (tree-with n ids parents depths shares) why (getD parents r 0) now)
         → Rising n parents shares why row depth before (d - 1) (getD parents r 0) next
     rising-goes next some has chosen =
         record {
           same = λ ids depths.
-              let whole = tree n ids parents depths shares in
+              let whole = tree-with n ids parents depths shares in
               rw (chosen ids depths, ← up-goes whole why r now d some (head-part now (getD parents r 0) ∙ has)) (rising .same ids depths);
         }
-
--- ── clearing ──
-
-abbrev clear : ℕ → ℕ → ℕ
-clear r n = 0
-
-module _ (tree : Tree) (r : ℕ) (xs : List ℕ) where
-  path-done : (d : ℕ) → d ≡ 0 → on-path d tree clear r xs ≡ set xs r 0
-  unfolding on-path
-  path-done d none = rw none
-
-  path-goes : (d : ℕ) → 0 < d → on-path d tree clear r xs ≡ on-path (d - 1) tree clear (parent tree r) (set xs r 0)
-  unfolding on-path
-  path-goes zero some = absurd (omega arith)
-  path-goes (suc d) some = rw sub-one
-
--- what remains to be cleared of xs from row r, which is at depth d, is all that was to be cleared from row k at first
-pub record Remains (parents depths : List ℕ) (k : ℕ) (xs₀ : List ℕ) (d r : ℕ) (xs : List ℕ) : Type 0 where
-  pub same : (rows : ℕ) (ids shares : List ℕ)
-      → on-path d (tree-with rows ids parents depths shares) clear r xs ≡ along (tree-with rows ids parents depths shares) clear k xs₀
-
-pub remains-all : (parents depths : List ℕ) (k : ℕ) (xs : List ℕ) → Remains parents depths k xs (getD depths k 0) k xs
-unfolding along
-remains-all parents depths k xs = record { same = λ rows ids shares. refl }
-
-pub remains-less : {parents depths : List ℕ} {k : ℕ} {xs₀ : List ℕ} {d r : ℕ} {xs ys : List ℕ} → 0 < d → ys ≡ set xs r 0
-    → Remains parents depths k xs₀ d r xs → Remains parents depths k xs₀ (d - 1) (getD parents r 0) ys
-remains-less {parents} {depths} {k} {xs₀} {d} {r} {xs} {ys} some written remains =
-    record {
-      same = λ rows ids shares.
-          rw (written, ← path-goes (tree-with rows ids parents depths shares) r xs d some) (remains .same rows ids shares);
-    }
-
-pub remains-last : {parents depths : List ℕ} {k : ℕ} {xs₀ : List ℕ} {d r : ℕ} {xs ys : List ℕ} → d ≡ 0 → ys ≡ set xs r 0
-    → Remains parents depths k xs₀ d r xs
-    → (rows : ℕ) (ids shares : List ℕ) → ys ≡ along (tree-with rows ids parents depths shares) clear k xs₀
-remains-last {parents} {depths} {k} {xs₀} {d} {r} {xs} {ys} none written remains rows ids shares =
-    rw (written, ← path-done (tree-with rows ids parents depths shares) r xs d none) (remains .same rows ids shares)

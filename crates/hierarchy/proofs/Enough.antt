@@ -1,4 +1,4 @@
--- How much room the steps leave: from room for so many more ticks before a step there is room for the rest of them after it.
+-- How much leeway the steps leave: of that before a step there is left after it what the step does not use up.
 -- Assumes nothing.
 use Prim.Native.Nat.{ℕ, _+_, _*_, _-_, _≤_, _<_, _^_}
 use mathlib.Core.Path.{_≡_}
@@ -12,90 +12,92 @@ use Rattle.input.specs.Classes.{Tree, share}
 use Rattle.rules.specs.Box.{Rows, head, head-length, head-class}
 use Rattle.rules.specs.Steps.{with-head, with-virtual, charged, next-start, new-head, raised, pick, takes, chooses}
 use Rattle.choosing.specs.Sizes.{Leeway, most-charge, most-passed, most-choice}
-use Rattle.choosing.proofs.Ticks.{charge-most, written, less-room, next-start-room, raised-room, passed-room}
+use Rattle.words.proofs.Entries.{entry-set}
+use Rattle.choosing.proofs.Ticks.{charge-most, less-leeway, next-start-leeway, raised-leeway, passed-leeway}
 use Rattle.hierarchy.specs.Sizes.{Small}
 
-pub same-room : {n : ℕ} {rows next : Rows} → next ≡ rows → Leeway n rows → Leeway n next
-same-room same room = rw same room
+pub same-leeway : {n : ℕ} {rows next : Rows} → next ≡ rows → Leeway n rows → Leeway n next
+same-leeway same leeway = rw same leeway
 
-with-head-room : (n : ℕ) (rows : Rows) → Leeway n rows
+with-head-leeway : (n : ℕ) (rows : Rows) → Leeway n rows
     → (r packet length class : ℕ) → length ≤ most-bytes → Leeway n (with-head r packet length class rows)
 unfolding with-head
-with-head-room n rows room r packet length class short =
+with-head-leeway n rows leeway r packet length class short =
     record {
-      starts = room .starts;
-      finishes = room .finishes;
-      virtuals = room .virtuals;
-      head-lengths = written (λ (l : ℕ). l ≤ most-bytes) (rows .head-lengths) r length short (room .head-lengths);
+      starts = leeway .starts;
+      finishes = leeway .finishes;
+      virtuals = leeway .virtuals;
+      head-lengths = λ i. entry-set (λ (l : ℕ). l ≤ most-bytes) (rows .head-lengths) r length i short (leeway .head-lengths i);
     }
 
-pub new-head-room : (n : ℕ) (tree : Tree) (rows : Rows) → Leeway (n + most-charge) rows
+pub new-head-leeway : (n : ℕ) (tree : Tree) (rows : Rows) → Leeway (n + most-charge) rows
     → (why : Why) (r packet length class : ℕ) → length ≤ most-bytes → Leeway n (new-head tree why r packet length class rows)
 unfolding new-head charged with-head
-new-head-room n tree rows room why r packet length class short =
-    let small = next-start-room (n + most-charge) tree rows room why r in
+new-head-leeway n tree rows leeway why r packet length class short =
+    let small = next-start-leeway (n + most-charge) tree rows leeway why r in
     let cheap = charge-most length (share tree r) short in
     record {
-      starts = written (λ (t : ℕ). t + n < 2 ^ 64) (rows .starts) r s (omega arith) (rest .starts);
-      finishes = written (λ (t : ℕ). t + n < 2 ^ 64) (rows .finishes) r (s + charge length (share tree r)) (omega arith) (rest .finishes);
+      starts = λ i. entry-set (λ (t : ℕ). t + n < 2 ^ 64) (rows .starts) r s i (omega arith) (rest .starts i);
+      finishes =
+          λ i. entry-set (λ (t : ℕ). t + n < 2 ^ 64) (rows .finishes) r (s + charge length (share tree r)) i (omega arith) (rest .finishes i);
       virtuals = rest .virtuals;
-      head-lengths = with-head-room n rows rest r packet length class short .head-lengths;
+      head-lengths = with-head-leeway n rows rest r packet length class short .head-lengths;
     }
   where
     s : ℕ
     s = next-start tree why r rows
 
     rest : Leeway n rows
-    rest = less-room (n + most-charge) n rows (omega arith) room
+    rest = less-leeway (n + most-charge) n rows (omega arith) leeway
 
-takes-room : (n : ℕ) (tree : Tree) (rows : Rows) → Leeway (n + most-choice) rows
+takes-leeway : (n : ℕ) (tree : Tree) (rows : Rows) → Leeway (n + most-choice) rows
     → (why : Why) (p k : ℕ) → Leeway n (takes tree why p k rows)
 unfolding takes
-takes-room n tree rows room why p k = go (eqb p 0)
+takes-leeway n tree rows leeway why p k = go (eqb p 0)
   where
     short : head-length rows k ≤ most-bytes
-    short = room .head-lengths k
+    short = leeway .head-lengths k
 
     passed : Rows
     passed = with-virtual p (raised tree rows p + ticks * head-length rows k) rows
 
     after : Leeway (n + most-charge) passed
     after =
-        let enough = less-room (n + most-choice) (n + most-charge + most-passed) rows (omega arith) room in
-        let small = raised-room (n + most-charge + most-passed) tree rows enough p in
-        passed-room (n + most-charge) (raised tree rows p) rows small enough p (head-length rows k) short
+        let enough = less-leeway (n + most-choice) (n + most-charge + most-passed) rows (omega arith) leeway in
+        let small = raised-leeway (n + most-charge + most-passed) tree rows enough p in
+        passed-leeway (n + most-charge) (raised tree rows p) rows small enough p (head-length rows k) short
 
     go : (root : Bool)
         → Leeway n (cond root (with-head p (head rows k) (head-length rows k) (head-class rows k) passed)
         (new-head tree why p (head rows k) (head-length rows k) (head-class rows k) passed))
     go true =
-        let rest = less-room (n + most-charge) n passed (omega arith) after in
-        with-head-room n passed rest p (head rows k) (head-length rows k) (head-class rows k) short
-    go false = new-head-room n tree passed after why p (head rows k) (head-length rows k) (head-class rows k) short
+        let rest = less-leeway (n + most-charge) n passed (omega arith) after in
+        with-head-leeway n passed rest p (head rows k) (head-length rows k) (head-class rows k) short
+    go false = new-head-leeway n tree passed after why p (head rows k) (head-length rows k) (head-class rows k) short
 
-chooses-room : (n : ℕ) (tree : Tree) (rows : Rows) → Leeway (n + most-choice) rows
+chooses-leeway : (n : ℕ) (tree : Tree) (rows : Rows) → Leeway (n + most-choice) rows
     → (why : Why) (p : ℕ) → Leeway n (chooses tree why p rows)
 unfolding chooses
-chooses-room n tree rows room why p = go (eqb k 0)
+chooses-leeway n tree rows leeway why p = go (eqb k 0)
   where
     k : ℕ
     k = pick tree rows p
 
     go : (none : Bool) → Leeway n (cond none (with-head p 0 0 0 rows) (takes tree why p k rows))
-    go true = with-head-room n rows (less-room (n + most-choice) n rows (omega arith) room) p 0 0 0 (omega arith)
-    go false = takes-room n tree rows room why p k
+    go true = with-head-leeway n rows (less-leeway (n + most-choice) n rows (omega arith) leeway) p 0 0 0 (omega arith)
+    go false = takes-leeway n tree rows leeway why p k
 
 -- the same where d choices were left
-pub chosen-room : (d : ℕ) (tree : Tree) (why : Why) (p : ℕ) (rows next : Rows) → 0 < d → next ≡ chooses tree why p rows
+pub chosen-leeway : (d : ℕ) (tree : Tree) (why : Why) (p : ℕ) (rows next : Rows) → 0 < d → next ≡ chooses tree why p rows
     → Leeway (d * most-choice) rows → Leeway ((d - 1) * most-choice) next
-chosen-room d tree why p rows next some same room =
-    same-room same
-    (chooses-room ((d - 1) * most-choice) tree rows
-    (less-room (d * most-choice) ((d - 1) * most-choice + most-choice) rows (omega arith) room) why p)
+chosen-leeway d tree why p rows next some same leeway =
+    same-leeway same
+    (chooses-leeway ((d - 1) * most-choice) tree rows
+    (less-leeway (d * most-choice) ((d - 1) * most-choice + most-choice) rows (omega arith) leeway) why p)
 
--- small tags have room for an event: a packet charged to its class and a choice at each row above it
-pub small-room : (n : ℕ) (rows : Rows) → n + 2 ^ 62 < 2 ^ 64 → Small rows → Leeway n rows
-small-room n rows few small =
+-- small tags have the leeway for an event: a packet charged to its class and a choice at each row above it
+pub small-leeway : (n : ℕ) (rows : Rows) → n + 2 ^ 62 < 2 ^ 64 → Small rows → Leeway n rows
+small-leeway n rows few small =
     record {
       starts = λ i. let h = small .starts i in omega arith;
       finishes = λ i. let h = small .finishes i in omega arith;

@@ -11,9 +11,9 @@ use Rattle.input.specs.Classes.{Tree}
 use Rattle.rules.specs.Box.{Packet, Rows}
 use Rattle.rules.specs.Steps.{new-head, renews}
 use Rattle.choosing.specs.Sizes.{Leeway, most-charge}
-use Rattle.choosing.proofs.Ticks.{less-room}
+use Rattle.choosing.proofs.Ticks.{less-leeway}
 use Rattle.hierarchy.specs.Next.{next-of}
-use Rattle.hierarchy.proofs.Enough.{new-head-room}
+use Rattle.hierarchy.proofs.Enough.{new-head-leeway}
 
 module _ (tree : Tree) (k : ℕ) (rows : Rows) where
   pub renews-first : (later : List Packet) → renews tree k later rows ≡ renews tree k (take 1 later) rows
@@ -30,7 +30,7 @@ module _ (tree : Tree) (k : ℕ) (rows : Rows) where
   renews-some zero length some = absurd (some refl)
   renews-some (suc place) length some = refl
 
-  pub renews-room : (n next length : ℕ) → length ≤ most-bytes → Leeway (n + most-charge) rows → Leeway n (renews tree k (next-of next length) rows)
+  pub renews-leeway : (n next length : ℕ) → length ≤ most-bytes → Leeway (n + most-charge) rows → Leeway n (renews tree k (next-of next length) rows)
   unfolding renews next-of
-  renews-room n zero length short room = less-room (n + most-charge) n rows (omega arith) room
-  renews-room n (suc place) length short room = new-head-room n tree rows room Finished k (suc place) length k short
+  renews-leeway n zero length short leeway = less-leeway (n + most-charge) n rows (omega arith) leeway
+  renews-leeway n (suc place) length short leeway = new-head-leeway n tree rows leeway Finished k (suc place) length k short

@@ -1,4 +1,4 @@
--- What the functions' proofs share.
+-- How much leeway the steps leave, the way up, and a class's next packet.
 pub mod Enough
 pub mod Climb
 pub mod Later

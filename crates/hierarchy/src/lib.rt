@@ -15,19 +15,21 @@ ghost use Rattle.choosing.specs.Arrays.{rows-of, Inside};
 ghost use Rattle.choosing.specs.Sizes.{Leeway, most-charge};
 ghost use Rattle.hierarchy.specs.Sizes.{Small, most-climb};
 ghost use Rattle.hierarchy.specs.Next.{next-of};
+use input::RowLongs;
+use input::RowWords;
 use rules::Why;
 
 // From a row at this depth upwards: the parent chooses if it has no head, then the parent's parent likewise, up to the root.
 fn up(
     rows: usize,
-    parents: &[u32; 256],
-    shares: &[u32; 256],
-    starts: &mut [u64; 256],
-    finishes: &mut [u64; 256],
-    virtuals: &mut [u64; 256],
-    heads: &mut [u32; 256],
-    head_lengths: &mut [u32; 256],
-    head_classes: &mut [u32; 256],
+    parents: &RowWords,
+    shares: &RowWords,
+    starts: &mut RowLongs,
+    finishes: &mut RowLongs,
+    virtuals: &mut RowLongs,
+    heads: &mut RowWords,
+    head_lengths: &mut RowWords,
+    head_classes: &mut RowWords,
     why: Why,
     row: usize,
     depth: u32,
@@ -71,11 +73,11 @@ fn up(
 
 // The packet of class k leaves every row on its path: those have no head.
 pub fn finish_first(
-    parents: &[u32; 256],
-    depths: &[u32; 256],
-    heads: &mut [u32; 256],
-    head_lengths: &mut [u32; 256],
-    head_classes: &mut [u32; 256],
+    parents: &RowWords,
+    depths: &RowWords,
+    heads: &mut RowWords,
+    head_lengths: &mut RowWords,
+    head_classes: &mut RowWords,
     k: usize,
 )
     requires { ⌜ k < most-rows ⌝ }
@@ -97,14 +99,14 @@ pub fn finish_first(
 
 // The next packet of class k, if it has one, is its head.
 fn renew(
-    parents: &[u32; 256],
-    shares: &[u32; 256],
-    starts: &mut [u64; 256],
-    finishes: &mut [u64; 256],
-    virtuals: &[u64; 256],
-    heads: &mut [u32; 256],
-    head_lengths: &mut [u32; 256],
-    head_classes: &mut [u32; 256],
+    parents: &RowWords,
+    shares: &RowWords,
+    starts: &mut RowLongs,
+    finishes: &mut RowLongs,
+    virtuals: &RowLongs,
+    heads: &mut RowWords,
+    head_lengths: &mut RowWords,
+    head_classes: &mut RowWords,
     k: usize,
     next: u32,
     length: u32,
@@ -146,15 +148,15 @@ fn renew(
 // `next` is that packet's place + 1, or 0 where there is none.
 pub fn go_on(
     rows: usize,
-    parents: &[u32; 256],
-    depths: &[u32; 256],
-    shares: &[u32; 256],
-    starts: &mut [u64; 256],
-    finishes: &mut [u64; 256],
-    virtuals: &mut [u64; 256],
-    heads: &mut [u32; 256],
-    head_lengths: &mut [u32; 256],
-    head_classes: &mut [u32; 256],
+    parents: &RowWords,
+    depths: &RowWords,
+    shares: &RowWords,
+    starts: &mut RowLongs,
+    finishes: &mut RowLongs,
+    virtuals: &mut RowLongs,
+    heads: &mut RowWords,
+    head_lengths: &mut RowWords,
+    head_classes: &mut RowWords,
     k: usize,
     next: u32,
     length: u32,
@@ -204,15 +206,15 @@ pub fn go_on(
 // A packet arrives for class k: nothing changes if k has a head; else it is k's head, and then whoever above has none chooses.
 pub fn arrive(
     rows: usize,
-    parents: &[u32; 256],
-    depths: &[u32; 256],
-    shares: &[u32; 256],
-    starts: &mut [u64; 256],
-    finishes: &mut [u64; 256],
-    virtuals: &mut [u64; 256],
-    heads: &mut [u32; 256],
-    head_lengths: &mut [u32; 256],
-    head_classes: &mut [u32; 256],
+    parents: &RowWords,
+    depths: &RowWords,
+    shares: &RowWords,
+    starts: &mut RowLongs,
+    finishes: &mut RowLongs,
+    virtuals: &mut RowLongs,
+    heads: &mut RowWords,
+    head_lengths: &mut RowWords,
+    head_classes: &mut RowWords,
     place: u32,
     k: usize,
     length: u32,

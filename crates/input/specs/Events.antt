@@ -1,5 +1,6 @@
 -- Events: two words each, and what they mean.
 use Prim.Native.Nat.{ℕ}
+use mathlib.Core.Path.{_≡_}
 use mathlib.Core.Bool.{cond}
 use mathlib.Core.List.{List}
 use lib.Dec.{eqb}
@@ -15,6 +16,9 @@ pub record Events : Type 0 where
 -- class 0 says that the line has finished its packet, any other that a packet has arrived for that class
 unfoldable pub decode : ℕ → ℕ → Event
 decode class length = cond (eqb class 0) Finish (Arrival class length)
+
+abbrev pub Decodes : ℕ → ℕ → Event → Type 0
+Decodes class length e = e ≡ decode class length
 
 -- the number of events
 abbrev pub count : Events → ℕ

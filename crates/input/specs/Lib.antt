@@ -4,5 +4,6 @@ pub mod Limits
 pub mod Shares
 pub mod Classes
 pub mod Events
+pub mod EventRows
 pub mod Refusals
 pub mod Lent

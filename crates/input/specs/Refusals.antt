@@ -54,22 +54,12 @@ rows-refused table =
 unfoldable pub events-refused : Events → Refusal
 events-refused events = given (not (eqb (length (events .lengths)) (count events)) || ltb most-events (count events)) 2 0
 
--- 3: a result slice is too short
-unfoldable pub room-refused : Table → Events → Room → Refusal
-room-refused table events room =
-    let rows = length (table .identifiers) in
-    given
-    (ltb (room .order) (count events) || ltb (room .working) (count events)
-    || ltb (room .report) (report-words * rows) || ltb (room .lags) rows)
-    3 0
+-- 3: a result slice is too short for so many rows and events
+unfoldable pub room-refused : ℕ → ℕ → Room → Refusal
+room-refused rows events room =
+    given (ltb (room .order) events || ltb (room .working) events || ltb (room .report) (report-words * rows) || ltb (room .lags) rows) 3 0
 
 -- ── the class table ──
-
--- 5: the identifier of row r stands in an earlier row, which is the second place
-unfoldable pub doubled : Table → ℕ → Refusal
-doubled table r =
-    let other = earlier table r (getD (table .identifiers) r 0) in
-    cond (ltb other r) (record { number = 5; place = r; second = other }) nothing
 
 -- row 0: 4 and 6 alone
 unfoldable pub root-refused : Table → Refusal
@@ -79,20 +69,27 @@ root-refused table =
     ∷ given (not (eqb (getD (table .parent-identifiers) 0 0) 0) || not (eqb (getD (table .shares) 0 0) 0)) 6 0
     ∷ [])
 
--- any other row: 4, 5, 7, 8, 9
-unfoldable pub class-refused : Table → ℕ → Refusal
-class-refused table r =
+-- 5: the identifier of row r stands in an earlier row, which is the second place
+unfoldable pub doubled : ℕ → ℕ → Refusal
+doubled r other = cond (ltb other r) (record { number = 5; place = r; second = other }) nothing
+
+-- any other row r: 4, 5, 7, 8, 9, by its identifier, the first row with that identifier, its parent's row, its share and its depth
+unfoldable pub class-refused : ℕ → ℕ → ℕ → ℕ → ℕ → ℕ → Refusal
+class-refused r identifier earlier parent share depth =
     first
-    (given (eqb (getD (table .identifiers) r 0) 0) 4 r
-    ∷ doubled table r
-    ∷ given (eqb (parent-of table r) r) 7 r
-    ∷ given (not (allowed (getD (table .shares) r 0))) 8 r
-    ∷ given (ltb most-depth (depth (tree-of table) r)) 9 r
+    (given (eqb identifier 0) 4 r
+    ∷ doubled r earlier
+    ∷ given (eqb parent r) 7 r
+    ∷ given (not (allowed share)) 8 r
+    ∷ given (ltb most-depth depth) 9 r
     ∷ [])
 
 unfoldable pub row-refused : Table → ℕ → Refusal
 row-refused table zero = root-refused table
-row-refused table (suc r) = class-refused table (suc r)
+row-refused table (suc before) =
+    let r = suc before in
+    let identifier = getD (table .identifiers) r 0 in
+    class-refused r identifier (earlier table r identifier) (parent-of table r) (getD (table .shares) r 0) (depth (tree-of table) r)
 
 -- 10: the shares of row p's children are too much together
 unfoldable pub shares-refused : Table → ℕ → Refusal
@@ -106,12 +103,14 @@ table-refused table =
 
 -- ── the words of an event ──
 
+-- a packet at place i for a class that is there, a sending class or not: 12, 13
+unfoldable pub packet-refused : ℕ → Bool → ℕ → Refusal
+packet-refused i sending length =
+    first (given (not sending) 12 i ∷ given (ltb length least-bytes || ltb most-bytes length) 13 i ∷ [])
+
 -- an event at place i, with its length word, that meets an idle line or a busy one. An arrival: 11, 12, 13; a finish: 13, 14
 unfoldable pub meeting-refused : Tree → ℕ → ℕ → Event → Bool → Refusal
 meeting-refused tree i word (Arrival class length) idles =
-    first
-    (given (eqb (row-of tree class) (tree .rows)) 11 i
-    ∷ given (not (sends tree (row-of tree class))) 12 i
-    ∷ given (ltb length least-bytes || ltb most-bytes length) 13 i
-    ∷ [])
+    let row = row-of tree class in
+    or-else (given (eqb row (tree .rows)) 11 i) (packet-refused i (sends tree row) length)
 meeting-refused tree i word Finish idles = first (given (not (eqb word 0)) 13 i ∷ given idles 14 i ∷ [])

@@ -1,4 +1,5 @@
 // The words that definitions and code share about what is put in: limits and units, the two kinds of event, a refusal, and a run's answer.
+ghost use Rattle.input.specs.Events.{Decodes};
 
 // ── limits and units: the numbers of specs/Limits.antt ──
 
@@ -24,15 +25,41 @@ pub const WHOLE: u32 = 840;
 pub const TICKS: u32 = 840;
 
 // Ticks to a byte for a share of one part.
-pub const SCALE: u32 = 705600;
+pub const SCALE: u32 = TICKS * WHOLE;
 
 // Words of the report for a row.
 pub const REPORT_WORDS: usize = 5;
+
+// Largest packets that each step of the promise on shares adds.
+pub const PACKETS_A_STEP: u32 = 3;
+
+// ── an entry for each row that there can be ──
+
+pub type RowLongs = [u64; MOST_ROWS];
+
+pub type RowWords = [u32; MOST_ROWS];
+
+pub type RowMarks = [bool; MOST_ROWS];
+
+// The row of each event's class, as far as there can be events.
+pub type EventRows = [u8; MOST_EVENTS];
+
+// ── what is put in, and what is answered ──
 
 // An event: a packet of `length` bytes has arrived for the class with this identifier, or the line has finished its packet.
 pub enum Event {
     Arrival { class: u32, length: u32 },
     Finish,
+}
+
+// What the two words of an event mean.
+pub fn decode(class: u32, length: u32) -> Event
+    ensures { λ r. ⌜ Decodes class length r ⌝ }
+{
+    if class == 0 {
+        return Event::Finish;
+    }
+    Event::Arrival { class, length }
 }
 
 // Why an input is refused, and where. Number 0 refuses nothing.

@@ -6,3 +6,4 @@ pub mod Holding
 pub mod Outset
 pub mod OneEvent
 pub mod Keeping
+pub mod Beyond

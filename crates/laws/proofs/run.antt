@@ -1,8 +1,9 @@
--- A run: its order, what is counted in it, when the line is idle, and how large its numbers are.
+-- A run: its order, what is counted in it, when the line is idle, how large its numbers are, and which rows it never writes.
 pub mod Orders
 pub mod Counting
 pub mod History
 pub mod Idle
 pub mod Sizes
+pub mod Unwritten
 pub mod Quiet
 pub mod Sent

@@ -3,7 +3,6 @@ pub mod Sound
 pub mod Moves
 pub mod Level
 pub mod Kept
-pub mod Line
 pub mod History
 pub mod Pace
 pub mod Shorter

@@ -1,15 +1,17 @@
 // What the arguments ask for: the largest packet and the class's own bytes, or what is wrong with them.
 ghost use mathlib.Core.Path.{_≡_};
 ghost use Rattle.promise.specs.Arguments as arguments;
+use input::LEAST_BYTES;
+use input::MOST_BYTES;
 use libc::STDOUT_FILENO;
+use output::Sink;
 use output::flush;
 use output::onto;
+use output::put_byte;
+use output::put_named;
 use output::put_text;
+use sentences::put_packet_bytes;
 use text::Field;
-
-const LEAST_BYTES: u32 = 1;
-
-const MOST_BYTES: u32 = 2048;
 
 // The two numbers, or the first fault.
 pub enum Asked {
@@ -21,18 +23,18 @@ pub enum Asked {
 }
 
 // What two fields ask for.
-pub fn of(largest: Field, own: Field) -> Asked
+pub fn from_fields(largest: Field, own: Field) -> Asked
     ensures { λ r. ⌜ r ≡ arguments.asked largest own ⌝ }
 {
     match largest {
         Field::Empty => Asked::LargestNoNumber,
-        Field::Number(n) => of_packet(n, own),
+        Field::Number(n) => from_packet(n, own),
         Field::Over => Asked::LargestNoPacket,
         Field::Other => Asked::LargestNoNumber,
     }
 }
 
-fn of_packet(largest: u32, own: Field) -> Asked
+fn from_packet(largest: u32, own: Field) -> Asked
     ensures { λ r. ⌜ r ≡ arguments.packet-asked largest own ⌝ }
 {
     if largest < LEAST_BYTES {
@@ -41,10 +43,10 @@ fn of_packet(largest: u32, own: Field) -> Asked
     if MOST_BYTES < largest {
         return Asked::LargestNoPacket;
     }
-    of_own(largest, own)
+    from_own(largest, own)
 }
 
-fn of_own(largest: u32, own: Field) -> Asked
+fn from_own(largest: u32, own: Field) -> Asked
     ensures { λ r. ⌜ r ≡ arguments.own-asked largest own ⌝ }
 {
     match own {
@@ -57,17 +59,24 @@ fn of_own(largest: u32, own: Field) -> Asked
 
 // Says what is wrong, where something is.
 pub fn complain(asked: Asked) {
+    let mut out = [0u8; 8192];
+    let sink = put_text(&mut out, onto(STDOUT_FILENO), b"cannot read ");
+    let sink = put_fault(&mut out, sink, asked);
+    let sink = put_byte(&mut out, sink, 10);
+    flush(&mut out, sink);
+}
+
+fn put_fault(out: &mut [u8; 8192], sink: Sink, asked: Asked) -> Sink {
     match asked {
-        Asked::Numbers { largest: _, own: _ } => {}
-        Asked::LargestNoNumber => say(b"cannot read LARGEST: it is not a decimal number\n"),
-        Asked::LargestNoPacket => say(b"cannot read LARGEST: a packet has 1 to 2048 bytes\n"),
-        Asked::OwnNoNumber => say(b"cannot read OWN: it is not a decimal number\n"),
-        Asked::OwnTooLarge => say(b"cannot read OWN: it is over 4294967295\n"),
+        Asked::Numbers { largest: _, own: _ } => sink,
+        Asked::LargestNoNumber => put_text(out, sink, b"LARGEST: it is not a decimal number"),
+        Asked::LargestNoPacket => put_no_packet(out, sink),
+        Asked::OwnNoNumber => put_text(out, sink, b"OWN: it is not a decimal number"),
+        Asked::OwnTooLarge => put_named(out, sink, b"OWN: it is over ", u32::MAX),
     }
 }
 
-fn say(sentence: &[u8]) {
-    let mut out = [0u8; 8192];
-    let sink = put_text(&mut out, onto(STDOUT_FILENO), sentence);
-    flush(&mut out, sink);
+fn put_no_packet(out: &mut [u8; 8192], sink: Sink) -> Sink {
+    let sink = put_text(out, sink, b"LARGEST: ");
+    put_packet_bytes(out, sink)
 }

@@ -1,6 +1,11 @@
 // The sheet as text.
 ghost use mathlib.Core.Path.{_≡_};
 ghost use Prim.Native.Nat.{_*_};
+ghost use Rattle.input.specs.Limits.{packets-a-step};
+use input::MOST_ROWS;
+use input::PACKETS_A_STEP;
+use input::RowMarks;
+use input::WHOLE;
 use libc::STDOUT_FILENO;
 use output::Sink;
 use output::flush;
@@ -9,10 +14,8 @@ use output::put_byte;
 use output::put_named;
 use output::put_number;
 use output::put_text;
-use sentences::word;
 use sheet::Figure;
-
-const MOST_ROWS: usize = 256;
+use words::word;
 
 // Prints the sheet of each sending class, in row order.
 pub fn print<'a>(
@@ -22,7 +25,7 @@ pub fn print<'a>(
     parents: &'a [u32],
     depths: &'a [u32],
     shares: &'a [u32],
-    senders: &'a [bool; 256],
+    senders: &'a RowMarks,
 ) {
     let mut out = [0u8; 8192];
     let mut sink = put_heading(&mut out, onto(STDOUT_FILENO), largest, own);
@@ -49,14 +52,15 @@ fn put_heading(out: &mut [u8; 8192], sink: Sink, largest: u32, own: u32) -> Sink
     let sink = put_named(out, sink, b"own bytes ", own);
     let sink = put_named(out, sink, b", largest packet ", largest);
     let sink = put_text(out, sink, b", three packets ");
-    let sink = put_number(out, sink, three(largest));
+    let sink = put_number(out, sink, packets(largest));
     put_byte(out, sink, 10)
 }
 
-fn three(largest: u32) -> u64
-    ensures { λ r. ⌜ r ≡ 3 * largest ⌝ }
+// The bytes that a step adds.
+fn packets(largest: u32) -> u64
+    ensures { λ r. ⌜ r ≡ packets-a-step * largest ⌝ }
 {
-    3 * largest as u64
+    PACKETS_A_STEP as u64 * largest as u64
 }
 
 // Of a sending class its own bytes and its steps; of any other row nothing.
@@ -130,7 +134,7 @@ fn put_steps<'a>(
     put_last(out, sink, figure)
 }
 
-// One step up: a row's class, the figure before, three packets, the row's share, the figure after.
+// One step up: a row's class, the figure before, the largest packets, the row's share, the figure after.
 fn put_step(
     out: &mut [u8; 8192],
     sink: Sink,
@@ -144,8 +148,9 @@ fn put_step(
     let sink = put_text(out, sink, b": (");
     let sink = put_figure(out, sink, before);
     let sink = put_text(out, sink, b" + ");
-    let sink = put_number(out, sink, three(largest));
-    let sink = put_named(out, sink, b") * 840 / ", share);
+    let sink = put_number(out, sink, packets(largest));
+    let sink = put_named(out, sink, b") * ", WHOLE);
+    let sink = put_named(out, sink, b" / ", share);
     let sink = put_text(out, sink, b" = ");
     put_result(out, sink, after)
 }

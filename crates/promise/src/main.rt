@@ -7,13 +7,14 @@ mod lines;
 use asked::Asked;
 use files::first;
 use files::load;
+use input::Answer;
+use input::Refusal;
 use libc::STDERR_FILENO;
 use libc::STDOUT_FILENO;
 use output::flush;
 use output::onto;
 use output::put_text;
-use input::Answer;
-use input::Refusal;
+use sentences::HELD_ROWS;
 use text::Field;
 use text::Kind;
 
@@ -29,7 +30,7 @@ fn main() {
     }
     let largest = argument(2);
     let own = if count == 4 { argument(3) } else { largest };
-    let asked = asked::of(largest, own);
+    let asked = asked::from_fields(largest, own);
     if let Asked::Numbers { largest, own } = asked {
         with_numbers(largest, own);
         return;
@@ -54,11 +55,11 @@ fn argument(place: usize) -> Field {
     text::number(&word[..length])
 }
 
-// Reads the table and goes on. A column has room for one row more than a table has, so that a longer one is refused.
+// Reads the table and goes on.
 fn with_numbers(largest: u32, own: u32) {
-    let mut identifiers = [0u32; 257];
-    let mut parents = [0u32; 257];
-    let mut shares = [0u32; 257];
+    let mut identifiers = [0u32; HELD_ROWS];
+    let mut parents = [0u32; HELD_ROWS];
+    let mut shares = [0u32; HELD_ROWS];
     let table = load(1, Kind::Table, &mut identifiers, &mut parents, &mut shares);
     if table.good {
         with_table(

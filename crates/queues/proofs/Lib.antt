@@ -1,2 +1,2 @@
--- The theorems that the proofs of queues rest on.
+-- Words that name packets, as the queues' and the order's functions test and write them.
 pub mod Words

@@ -1,12 +1,12 @@
--- Words that name a packet, and words that name none.
+-- Words that name a packet, words that name none, and a run of those.
 -- Assumes nothing.
 use Prim.Native.Nat.{ℕ, zero, suc, pred, _-_}
-use mathlib.Core.Path.{_≡_, refl}
+use mathlib.Core.Path.{_≡_, refl, ap}
 use mathlib.Core.Logic.{_≢_}
 use mathlib.Core.Bool.{Bool, true, false}
-use mathlib.Core.List.{List, [], _∷_}
+use mathlib.Core.List.{List, [], _∷_, _++_}
 use native.Mathlib.Omega.{arith}
-use lib.ListN.{getD, set}
+use lib.ListN.{getD, set, replicate}
 use borrow.Author.Tests.{eq-eqb, ne-eqb}
 use Rattle.queues.specs.Words.{followed, shortened, length-of, sent-word}
 
@@ -40,3 +40,8 @@ sent-busy idle head busy = rw busy
 pub sent-one : (idle : Bool) (head : ℕ) → idle ≡ true → head ≢ 0 → sent-word idle head ≡ (head - 1) ∷ []
 unfolding sent-word
 sent-one idle head idles some = let same : pred head ≡ head - 1 = omega arith in rw (idles, ne-eqb head 0 some, same)
+
+-- a 0 more
+pub replicate-more : (n : ℕ) → _≡_ {A = List ℕ} (replicate (suc n) 0) (replicate n 0 ++ 0 ∷ [])
+replicate-more zero = refl
+replicate-more (suc n) = ap (λ (xs : List ℕ). 0 ∷ xs) (replicate-more n)

@@ -4,22 +4,27 @@ mod results;
 
 use files::first;
 use files::load;
+use input::Answer;
+use input::MOST_EVENTS;
+use input::REPORT_WORDS;
 use libc::STDERR_FILENO;
 use libc::STDOUT_FILENO;
 use output::flush;
 use output::onto;
 use output::put_text;
-use input::Answer;
+use sentences::HELD_ROWS;
 
-// A column has room for one row more than a run takes, so that it refuses a longer table.
+// One more than a run takes, so that it refuses a longer list.
+const HELD_EVENTS: usize = MOST_EVENTS + 1;
+
 fn main() {
     if os::arg_count() != 3 {
         usage();
         return;
     }
-    let mut identifiers = [0u32; 257];
-    let mut parents = [0u32; 257];
-    let mut shares = [0u32; 257];
+    let mut identifiers = [0u32; HELD_ROWS];
+    let mut parents = [0u32; HELD_ROWS];
+    let mut shares = [0u32; HELD_ROWS];
     let table = load(
         1,
         text::Kind::Table,
@@ -37,10 +42,10 @@ fn main() {
     }
 }
 
-// Reads the events and goes on. A column has room for one event more than a run takes, so that it refuses a longer list.
+// Reads the events and goes on.
 fn with_table<'a>(rows: u64, identifiers: &'a [u32], parents: &'a [u32], shares: &'a [u32]) {
-    let mut classes = [0u32; 65537];
-    let mut lengths = [0u32; 65537];
+    let mut classes = [0u32; HELD_EVENTS];
+    let mut lengths = [0u32; HELD_EVENTS];
     let mut unused = [0u32; 1];
     let events = load(
         2,
@@ -82,10 +87,10 @@ fn replay<'a>(
     classes: &'a [u32],
     lengths: &'a [u32],
 ) {
-    let mut order = [0u32; 65536];
-    let mut report = [0u64; 1285];
-    let mut lags = [0i64; 257];
-    let mut working = [0u32; 65536];
+    let mut order = [0u32; MOST_EVENTS];
+    let mut report = [0u64; REPORT_WORDS * HELD_ROWS];
+    let mut lags = [0i64; HELD_ROWS];
+    let mut working = [0u32; MOST_EVENTS];
     let answer = engine::run(
         identifiers,
         parents,

@@ -1,4 +1,6 @@
 // The answer and the results as text.
+use input::Answer;
+use input::REPORT_WORDS;
 use libc::STDOUT_FILENO;
 use output::Sink;
 use output::flush;
@@ -8,14 +10,8 @@ use output::put_number;
 use output::put_signed;
 use output::put_text;
 use output::put_then;
-use input::Answer;
+use sentences::HELD_ROWS;
 use sentences::put_answer;
-
-// Words of the report for a row.
-const REPORT_WORDS: usize = 5;
-
-// The rows that are held: one more than a table may have, so that a row too many is seen.
-const HELD_ROWS: usize = 257;
 
 // Prints the answer and, of a done run, the results, and answers whether all of it was written.
 pub fn print<'a>(

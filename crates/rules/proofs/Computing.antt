@@ -19,7 +19,7 @@ unfolding allowed cost charge place-of earlier parent-of zeros with-row read tre
     Steps.goes-on Steps.sent Steps.arrival Steps.departure Steps.step Steps.after
     Refusals.nothing Refusals.given Refusals.or-else Refusals.first Refusals.first-below Refusals.rows-refused Refusals.events-refused
     Refusals.room-refused Refusals.doubled Refusals.root-refused Refusals.class-refused Refusals.row-refused Refusals.shares-refused
-    Refusals.table-refused Refused.idle Refusals.meeting-refused Refused.event-refused Refused.refused
+    Refusals.table-refused Refusals.packet-refused Refusals.meeting-refused Refused.idle Refused.event-refused Refused.refused
     outcome row-report report-of lag lags-of over room-of refusing doing
     Promise.path-has Promise.within Promise.for-part Promise.one-finish Promise.one-arrival Promise.finish-count Promise.arrived Promise.largest
     Promise.packets-for Promise.bytes-for Promise.line-bytes Promise.finished Promise.finished-in Promise.holds Promise.step-up Promise.climbed Promise.line-most

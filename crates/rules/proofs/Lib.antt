@@ -1,5 +1,8 @@
--- What is proved of the rules by themselves: the worked runs, how many words the results have.
+-- What is proved of the rules by themselves: the worked runs, how many words the results have and where they stand, a list changed along
+-- a path.
 pub mod Computing
 pub mod Worked
 pub mod Further
 pub mod Results
+pub mod Over
+pub mod OnPath

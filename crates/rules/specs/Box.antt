@@ -1,7 +1,7 @@
 -- The state of the box. Every list but the order has an entry for each row that there can be.
 use Prim.Native.Nat.{ℕ}
 use mathlib.Core.Bool.{Bool, not}
-use mathlib.Core.List.{List, []}
+use mathlib.Core.List.{List, [], tail}
 use lib.Dec.{eqb}
 use lib.ListN.{getD, replicate}
 use Rattle.input.specs.Limits.{most-rows}
@@ -75,3 +75,10 @@ held-by box r = getD (box .held) r 0
 
 abbrev pub queue-of : Box → ℕ → List Packet
 queue-of box r = getD (box .queues) r []
+
+-- the packet on the line: its class, and what that class holds behind it
+abbrev pub line-class : Box → ℕ
+line-class box = head-class (box .rows) 0
+
+abbrev pub left : Box → List Packet
+left box = tail (queue-of box (line-class box))

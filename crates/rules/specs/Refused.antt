@@ -2,6 +2,7 @@
 use Prim.Native.Nat.{ℕ}
 use mathlib.Core.Bool.{Bool, not}
 use mathlib.Core.List.{[], _∷_}
+use lib.ListN.{length}
 use Rattle.input.specs.declared.Refusal.{Refusal}
 use Rattle.input.specs.Classes.{Table, Tree, tree-of}
 use Rattle.input.specs.Events.{Events, count, length-word, event}
@@ -23,7 +24,7 @@ refused table events room =
     first
     (rows-refused table
     ∷ events-refused events
-    ∷ room-refused table events room
+    ∷ room-refused (length (table .identifiers)) (count events) room
     ∷ table-refused table
     ∷ first-below (event-refused (tree-of table) events) (count events)
     ∷ [])

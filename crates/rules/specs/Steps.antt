@@ -1,7 +1,7 @@
 -- The steps of the box: choosing at a row and up the tree, an arrival, the line's finish; and the box after some events.
 use Prim.Native.Nat.{ℕ, zero, suc, pred, _+_, _*_, max}
 use mathlib.Core.Bool.{Bool, cond, not, _&&_, _||_}
-use mathlib.Core.List.{List, [], _∷_, _++_, tail}
+use mathlib.Core.List.{List, [], _∷_, _++_}
 use lib.Dec.{leb, ltb, eqb}
 use lib.ListN.{getD, set}
 use Rattle.input.specs.declared.Event.{Event}
@@ -13,7 +13,7 @@ use Rattle.input.specs.Shares.{charge}
 use Rattle.input.specs.Classes.{Tree, parent, depth, share, child, row-of}
 use Rattle.input.specs.Events.{Events, event}
 use Rattle.rules.specs.Box.{Packet, Rows, Box, fresh, start, finish, virtual, head, head-length, head-class, has-head}
-use Rattle.rules.specs.Box.{bytes-of, held-by, queue-of}
+use Rattle.rules.specs.Box.{bytes-of, held-by, queue-of, line-class, left}
 
 -- ── a row's head and tags ──
 
@@ -172,19 +172,18 @@ arrival tree place k length box =
 -- the line has finished its packet
 unfoldable pub departure : Tree → Box → Box
 departure tree box =
-    let k = head-class (box .rows) 0 in
+    let k = line-class box in
     let length = head-length (box .rows) 0 in
-    let later = tail (queue-of box k) in
-    let left = leaves tree k (box .rows) in
-    let now = goes-on tree k later left in
+    let idle = leaves tree k (box .rows) in
+    let now = goes-on tree k (left box) idle in
     record {
       rows = now;
       bytes = along tree (λ r n. n + length) k (box .bytes);
       held = along tree (λ r n. pred n) k (box .held);
       since = box .since;
       parent-since = box .parent-since;
-      queues = set (box .queues) k later;
-      order = box .order ++ sent left now;
+      queues = set (box .queues) k (left box);
+      order = box .order ++ sent idle now;
     }
 
 -- the event at a place

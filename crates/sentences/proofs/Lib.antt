@@ -1,2 +1,2 @@
--- What the functions' proofs share.
+-- The allowed shares around a number.
 pub mod Around

@@ -1,8 +1,8 @@
 // The answer as text.
+use input::Answer;
 use output::Sink;
 use output::put_text;
 use output::put_then;
-use input::Answer;
 
 // The answer's four numbers under their names.
 pub fn put_answer(out: &mut [u8; 8192], sink: Sink, answer: Answer) -> Sink {

@@ -1,23 +1,12 @@
 // How a sentence names a row or an event.
 ghost use mathlib.Core.Path.{_≡_};
 ghost use Prim.Native.Nat.{_+_};
-ghost use lib.ListN.{getD};
 use output::Sink;
 use output::put_byte;
 use output::put_named;
 use output::put_number;
 use output::put_text;
-
-// The word at this place, 0 past the end.
-pub fn word(words: &[u32], place: u32) -> u32
-    ensures { λ r. ⌜ r ≡ getD (now (words .entry)) place 0 ⌝ }
-{
-    let at = place as usize;
-    if at < words.len() {
-        return words[at];
-    }
-    0
-}
+use words::word;
 
 pub fn put_row(out: &mut [u8; 8192], sink: Sink, row: u32) -> Sink {
     put_place(out, sink, b"row ", row)

@@ -2,11 +2,10 @@
 ghost use mathlib.Core.Path.{_≡_};
 ghost use Prim.Native.Nat.{min};
 ghost use Rattle.sentences.specs.Nearest.{greatest-below, least-above};
+use input::WHOLE;
 
-// The greatest share, and one more.
-const WHOLE: u32 = 840;
-
-const PAST: u32 = 841;
+// One more than the greatest share.
+const PAST: u32 = WHOLE + 1;
 
 // The greatest allowed share below this one, 0 where there is none.
 pub fn below(share: u32) -> u32

@@ -3,23 +3,26 @@ ghost use mathlib.Core.Path.{_≡_};
 ghost use Prim.Native.Nat.{suc, _<_, _^_};
 ghost use Rattle.input.specs.Limits.{most-rows};
 ghost use Rattle.sentences.specs.Named as named;
+use crate::HELD_ROWS;
 use crate::names::put_class;
 use crate::names::put_event;
 use crate::names::put_row;
-use crate::names::word;
 use crate::nearest::above;
 use crate::nearest::below;
+use input::Answer;
+use input::LEAST_BYTES;
+use input::LEAST_ROWS;
+use input::MOST_BYTES;
+use input::MOST_DEPTH;
+use input::MOST_EVENTS;
+use input::MOST_ROWS;
+use input::WHOLE;
 use output::Sink;
 use output::put_byte;
 use output::put_named;
 use output::put_number;
 use output::put_text;
-use input::Answer;
-
-const MOST_ROWS: usize = 256;
-
-// The rows that a program holds: one more than a table may have, so that a row too many is seen.
-const HELD_ROWS: u32 = 257;
+use words::word;
 
 // A refusal of a run.
 pub fn sentence<'a>(
@@ -125,25 +128,34 @@ fn of_events<'a>(
 fn rows_wrong(out: &mut [u8; 8192], sink: Sink, rows: u64) -> Sink {
     let sink = put_text(out, sink, b"the table has ");
     let sink = put_number(out, sink, rows);
-    if rows == 1 {
-        return put_text(out, sink, b" row; give it 2 to 256.");
-    }
-    put_text(out, sink, b" rows; give it 2 to 256.")
+    let sink = if rows == 1 {
+        put_text(out, sink, b" row; give it ")
+    } else {
+        put_text(out, sink, b" rows; give it ")
+    };
+    let sink = put_number(out, sink, LEAST_ROWS as u64);
+    let sink = put_text(out, sink, b" to ");
+    let sink = put_number(out, sink, MOST_ROWS as u64);
+    put_byte(out, sink, 46)
 }
 
 fn events_wrong(out: &mut [u8; 8192], sink: Sink, events: u64) -> Sink {
     let sink = put_text(out, sink, b"the list has ");
     let sink = put_number(out, sink, events);
-    put_text(out, sink, b" events; give it at most 65536.")
+    let sink = put_text(out, sink, b" events; give it at most ");
+    let sink = put_number(out, sink, MOST_EVENTS as u64);
+    put_byte(out, sink, 46)
 }
 
 fn zero(out: &mut [u8; 8192], sink: Sink, row: u32) -> Sink {
     let sink = put_row(out, sink, row);
-    put_text(
+    let sink = put_named(
         out,
         sink,
-        b" has identifier 0; give it a number from 1 to 4294967295.",
-    )
+        b" has identifier 0; give it a number from 1 to ",
+        u32::MAX,
+    );
+    put_byte(out, sink, 46)
 }
 
 fn repeated(out: &mut [u8; 8192], sink: Sink, identifiers: &[u32], row: u32, earlier: u32) -> Sink {
@@ -218,11 +230,14 @@ fn nearest(out: &mut [u8; 8192], sink: Sink, lower: u32, upper: u32) -> Sink {
 // The first row too deep is just one below the deepest allowed.
 fn deep(out: &mut [u8; 8192], sink: Sink, identifiers: &[u32], row: u32) -> Sink {
     let sink = put_class(out, sink, identifiers, row);
-    put_text(
+    let sink = put_named(out, sink, b", has depth ", MOST_DEPTH + 1);
+    let sink = put_named(
         out,
         sink,
-        b", has depth 9; put it under a class of depth 7 or less.",
-    )
+        b"; put it under a class of depth ",
+        MOST_DEPTH - 1,
+    );
+    put_text(out, sink, b" or less.")
 }
 
 fn sum<'a>(
@@ -238,7 +253,8 @@ fn sum<'a>(
     let sink = put_class(out, sink, identifiers, row);
     let sink = put_text(out, sink, b", have shares that add up to ");
     let sink = put_number(out, sink, sum);
-    put_text(out, sink, b"; bring them to 840 or less.")
+    let sink = put_named(out, sink, b"; bring them to ", WHOLE);
+    put_text(out, sink, b" or less.")
 }
 
 // The shares of the rows with this parent together.
@@ -247,7 +263,7 @@ fn children_share(identifier: u32, parents: &[u32], shares: &[u32]) -> u64
 {
     let mut sum = 0;
     let mut row = 0;
-    while row < HELD_ROWS {
+    while row < HELD_ROWS as u32 {
         sum += share_under(identifier, word(parents, row), word(shares, row));
         row += 1;
     }
@@ -328,7 +344,16 @@ fn of_finish(out: &mut [u8; 8192], sink: Sink, length: u32) -> Sink {
 fn of_packet(out: &mut [u8; 8192], sink: Sink, class: u32, length: u32) -> Sink {
     let sink = put_named(out, sink, b", for class ", class);
     let sink = put_named(out, sink, b", has length ", length);
-    put_text(out, sink, b"; a packet has 1 to 2048 bytes.")
+    let sink = put_text(out, sink, b"; ");
+    let sink = put_packet_bytes(out, sink);
+    put_byte(out, sink, 46)
+}
+
+// How many bytes a packet may have.
+pub fn put_packet_bytes(out: &mut [u8; 8192], sink: Sink) -> Sink {
+    let sink = put_named(out, sink, b"a packet has ", LEAST_BYTES);
+    let sink = put_named(out, sink, b" to ", MOST_BYTES);
+    put_text(out, sink, b" bytes")
 }
 
 fn idle(out: &mut [u8; 8192], sink: Sink, event: u32) -> Sink {

@@ -1,9 +1,6 @@
 // Shares: which are allowed, and what bytes cost under one.
-ghost use mathlib.Core.Path.{_≡_};
-ghost use Rattle.input.specs.Shares as shares;
-
-// Ticks that a byte costs a class with share 1: the scale.
-const SCALE: u32 = 705600;
+ghost use Rattle.shares.specs.Stated.{Allows, Costs, Charges};
+use input::SCALE;
 
 // The allowed shares, ascending.
 const SHARES: [u32; 95] = [
@@ -106,7 +103,7 @@ const SHARES: [u32; 95] = [
 
 // Whether a class may have this share.
 pub fn allowed(share: u32) -> bool
-    ensures { λ r. ⌜ r ≡ shares.allowed share ⌝ }
+    ensures { λ r. ⌜ Allows share r ⌝ }
 {
     let mut i = 0;
     while i < 95 {
@@ -120,14 +117,14 @@ pub fn allowed(share: u32) -> bool
 
 // Ticks that a byte costs a class with this share; a share of 0 is never charged, and costs nothing.
 pub fn cost(share: u32) -> u32
-    ensures { λ r. ⌜ r ≡ shares.cost share ⌝ }
+    ensures { λ r. ⌜ Costs share r ⌝ }
 {
     if share == 0 { 0 } else { SCALE / share }
 }
 
 // Ticks that a packet of this length costs a class with this share.
 pub fn charge(length: u32, share: u32) -> u64
-    ensures { λ r. ⌜ r ≡ shares.charge length share ⌝ }
+    ensures { λ r. ⌜ Charges length share r ⌝ }
 {
     (length as u64) * (cost(share) as u64)
 }

@@ -3,13 +3,13 @@
 use Prim.Native.Nat.{ℕ, zero, suc, _%_, _≤_, _<_, _∣_}
 use mathlib.Core.Path.{_≡_, refl, sym, subst, _∙_}
 use mathlib.Core.Bool.{Bool, true, false, false≢true}
+use mathlib.Mathlib.Data.Bool.Basic.{and-eq-true-eq-eq-true-and-eq-true as and-is-true}
 use native.Mathlib.Nat.{one-dvd, le-of-dvd, mod-eq-zero-of-dvd, dvd-of-mod-eq-zero}
 use native.Mathlib.Decide.{ℕ-discrete}
 use native.Mathlib.Omega.{arith}
 use lib.Dec.{eqb}
 use borrow.Author.Tests.{eq-eqb, eqb-true}
 use Rattle.sheet.specs.Paper.{divides-both, greatest}
-use Rattle.sheet.proofs.Tests.{both}
 
 module _ (a b : ℕ) where
   divides : (d : ℕ) → d ∣ a → d ∣ b → divides-both a b d ≡ true
@@ -19,7 +19,7 @@ module _ (a b : ℕ) where
   divided : (d : ℕ) → divides-both a b d ≡ true → (d ∣ a) × (d ∣ b)
   unfolding divides-both
   divided d passes =
-      let tests = both (eqb (a % d) 0) (eqb (b % d) 0) passes in
+      let tests = and-is-true (eqb (a % d) 0) (eqb (b % d) 0) .0 passes in
       (dvd-of-mod-eq-zero d (eqb-true (a % d) 0 (tests .0)), dvd-of-mod-eq-zero d (eqb-true (b % d) 0 (tests .1)))
 
   here : (n : ℕ) → divides-both a b (suc n) ≡ true → greatest a b (suc n) ≡ suc n

@@ -12,7 +12,7 @@ use Rattle.input.specs.Limits.{packets-a-step}
 use Rattle.input.specs.Classes.{Tree, parent, share}
 use Rattle.rules.specs.Promise.{Ratio, whole-over, step-up, climbed}
 use Rattle.sheet.specs.declared.Figure.{Figure}
-use Rattle.sheet.specs.Paper.{over, lowest, figure, stepped, climbing, worked}
+use Rattle.sheet.specs.Paper.{fraction, lowest, figure, stepped, climbing, worked}
 use Rattle.sheet.proofs.Greatest.{greatest-some, greatest-most}
 use Rattle.sheet.proofs.Figures.{divisor, part, up, numerator-whole, denominator-whole, denominator-some, step-fits, up-some}
 
@@ -90,10 +90,10 @@ climb-stands (suc n) tree largest row f q before =
 -- after as many steps as the row's depth this is the promise's `line-most`
 pub same :
     (steps : ℕ) (tree : Tree) (largest row own : ℕ) → worked steps (tree .parents) (tree .shares) largest row own .fits ≡ true
-    → Stands (worked steps (tree .parents) (tree .shares) largest row own) (climbed steps tree packets-a-step largest row (over own 1))
+    → Stands (worked steps (tree .parents) (tree .shares) largest row own) (climbed steps tree packets-a-step largest row (fraction own 1))
 unfolding worked
 same steps tree largest row own =
-    climb-stands steps tree largest row (figure (over own 1)) (over own 1)
+    climb-stands steps tree largest row (figure (fraction own 1)) (fraction own 1)
     (λ fits. record { crosswise = refl; figure-some = omega arith; ratio-some = omega arith })
 
 -- ── lowest terms ──
@@ -135,4 +135,4 @@ pub lowest-terms :
     → Lowest (worked steps parents shares largest row own)
 unfolding worked
 lowest-terms steps parents shares largest row own =
-    climb-lowest steps parents shares largest row (figure (over own 1)) (λ fits. (omega arith, λ d one other. le-of-dvd (omega arith) other))
+    climb-lowest steps parents shares largest row (figure (fraction own 1)) (λ fits. (omega arith, λ d one other. le-of-dvd (omega arith) other))

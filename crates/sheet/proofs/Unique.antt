@@ -1,17 +1,15 @@
--- The contracts leave no choice: two results that both meet a public routine's contract for one input are the same.
+-- Each contract leaves no choice.
 -- Assumes nothing.
 use Prim.Native.Nat.{ℕ}
-use mathlib.Core.Path.{_≡_, sym, _∙_}
 use mathlib.Core.List.{List}
+use Rattle.words.specs.Unique.{Unique}
+use Rattle.words.proofs.Determined.{determined}
 use Rattle.sheet.specs.declared.Figure.{Figure}
 use Rattle.sheet.specs.Paper.{worked, rounded-up}
+use Rattle.sheet.specs.Stated.{Works, RoundsUp}
 
-pub one-figure :
-    (steps : ℕ) (parents shares : List ℕ) (row largest own : ℕ) (a b : Figure) → a ≡ worked steps parents shares largest row own
-    → b ≡ worked steps parents shares largest row own → a ≡ b
-one-figure steps parents shares row largest own a b first second = first ∙ sym second
+pub one-figure : (steps : ℕ) (parents shares : List ℕ) (row largest own : ℕ) → Unique (Works steps parents shares row largest own)
+one-figure steps parents shares row largest own = determined (worked steps parents shares largest row own)
 
-pub one-rounding :
-    (figure : Figure) (a b : ℕ) → a ≡ rounded-up (figure .numerator) (figure .denominator)
-    → b ≡ rounded-up (figure .numerator) (figure .denominator) → a ≡ b
-one-rounding figure a b first second = first ∙ sym second
+pub one-rounding : (figure : Figure) → Unique (RoundsUp figure)
+one-rounding figure = determined (rounded-up (figure .numerator) (figure .denominator))

@@ -5,7 +5,7 @@ use mathlib.Core.Path.{_≡_, refl}
 use mathlib.Core.List.{[], _∷_, _++_, map}
 use Rattle.rules.specs.Promise.{step-up}
 use Rattle.sheet.specs.declared.Figure.{Figure}
-use Rattle.sheet.specs.Paper.{over, divides-both, greatest, lowest, figure, outgrown, fitting, stepped, climbing, worked, rounded-up}
+use Rattle.sheet.specs.Paper.{fraction, divides-both, greatest, lowest, figure, outgrown, fitting, stepped, climbing, worked, rounded-up}
 
 -- the example of docs/FAIRNESS.md: class 110, in row 3, finished 6,000 bytes, and the largest packet has 1,500
 pub alfa : ℕ → Figure
@@ -21,11 +21,11 @@ ones steps = worked steps (0 ∷ 0 ∷ 1 ∷ 2 ∷ 3 ∷ 4 ∷ 5 ∷ 6 ∷ 7 ∷
 
 pub figures :
     map alfa (0 ∷ 1 ∷ 2 ∷ []) ++ (ninth ∷ []) ++ map ones (6 ∷ 7 ∷ 8 ∷ [])
-    ≡ figure (over 6000 1)
-    ∷ figure (over 14000 1)
-    ∷ figure (over 27750 1)
-    ∷ figure (over 84280 3)
-    ∷ figure (over 351298031616000000 1)
+    ≡ figure (fraction 6000 1)
+    ∷ figure (fraction 14000 1)
+    ∷ figure (fraction 27750 1)
+    ∷ figure (fraction 84280 3)
+    ∷ figure (fraction 351298031616000000 1)
     ∷ outgrown
     ∷ outgrown
     ∷ []

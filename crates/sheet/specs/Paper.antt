@@ -10,8 +10,8 @@ use Rattle.sheet.specs.declared.Figure.{Figure}
 
 -- ── lowest terms ──
 
-abbrev pub over : ℕ → ℕ → Ratio
-over numerator denominator = record { numerator = numerator; denominator = denominator }
+abbrev pub fraction : ℕ → ℕ → Ratio
+fraction numerator denominator = record { numerator = numerator; denominator = denominator }
 
 unfoldable pub divides-both : ℕ → ℕ → ℕ → Bool
 divides-both a b d = eqb (a % d) 0 && eqb (b % d) 0
@@ -25,7 +25,7 @@ greatest a b (suc n) = elim (divides-both a b (suc n)) [ true ↦ suc n | false 
 unfoldable pub lowest : Ratio → Ratio
 lowest q =
     let by = greatest (q .numerator) (q .denominator) (q .denominator) in
-    over (q .numerator / by) (q .denominator / by)
+    fraction (q .numerator / by) (q .denominator / by)
 
 -- ── figures ──
 
@@ -37,7 +37,7 @@ abbrev pub figure : Ratio → Figure
 figure q = record { fits = true; numerator = q .numerator; denominator = q .denominator }
 
 abbrev pub ratio-of : Figure → Ratio
-ratio-of f = over (f .numerator) (f .denominator)
+ratio-of f = fraction (f .numerator) (f .denominator)
 
 abbrev pub outgrown : Figure
 outgrown = record { fits = false; numerator = 0; denominator = 0 }
@@ -65,7 +65,7 @@ climbing (suc n) parents shares largest row from =
 
 -- so many steps up from a row's own bytes
 unfoldable pub worked : ℕ → List ℕ → List ℕ → ℕ → ℕ → ℕ → Figure
-worked steps parents shares largest row own = climbing steps parents shares largest row (figure (over own 1))
+worked steps parents shares largest row own = climbing steps parents shares largest row (figure (fraction own 1))
 
 -- ── whole bytes ──
 

@@ -3,15 +3,12 @@ ghost use mathlib.Core.Path.{_≡_};
 ghost use mathlib.Core.Bool.{true};
 ghost use Prim.Native.Nat.{_+_, _*_, _<_};
 ghost use lib.Dec.{ltb};
-ghost use lib.ListN.{getD};
-ghost use Rattle.sheet.specs.Paper.{limit, greatest, over, fitting, stepped, worked, rounded-up};
+ghost use Rattle.sheet.specs.Paper.{limit, greatest, fraction, fitting, stepped};
 ghost use Rattle.sheet.specs.Paper as paper;
-
-// The parts that make a whole.
-const WHOLE: u64 = 840;
-
-// Largest packets that each step up adds.
-const PACKETS: u64 = 3;
+ghost use Rattle.sheet.specs.Stated.{Works, RoundsUp};
+use input::PACKETS_A_STEP;
+use input::WHOLE;
+use words::word;
 
 // A number of bytes as a fraction in lowest terms; where `fits` is false the working has outgrown 64 bits, or met a share of 0, and the
 // other two are 0.
@@ -48,7 +45,7 @@ fn common(a: u64, b: u64) -> u64
 
 fn lowest(numerator: u64, denominator: u64) -> Figure
     requires { ⌜ 0 < denominator ⌝ }
-    ensures { λ r. ⌜ r ≡ paper.figure (paper.lowest (over numerator denominator)) ⌝ }
+    ensures { λ r. ⌜ r ≡ paper.figure (paper.lowest (fraction numerator denominator)) ⌝ }
 {
     let by = common(numerator, denominator);
     Figure {
@@ -77,7 +74,7 @@ fn sum_fits(a: u64, b: u64) -> bool
 // The product of two fractions, a over b and a part, in lowest terms.
 fn product(a: u64, b: u64, part: Figure) -> Figure
     requires { ⌜ (0 < b) × (0 < part .denominator) ⌝ }
-    ensures { λ r. ⌜ r ≡ fitting (over (a * part .numerator) (b * part .denominator)) ⌝ }
+    ensures { λ r. ⌜ r ≡ fitting (fraction (a * part .numerator) (b * part .denominator)) ⌝ }
 {
     if !product_fits(a, part.numerator) {
         return outgrown();
@@ -99,8 +96,8 @@ fn step(largest: u32, share: u32, from: Figure) -> Figure
     if share == 0 {
         return outgrown();
     }
-    let part = lowest(WHOLE, share as u64);
-    let packets = PACKETS * largest as u64;
+    let part = lowest(WHOLE as u64, share as u64);
+    let packets = PACKETS_A_STEP as u64 * largest as u64;
     if !product_fits(packets, from.denominator) {
         return outgrown();
     }
@@ -109,14 +106,6 @@ fn step(largest: u32, share: u32, from: Figure) -> Figure
         return outgrown();
     }
     product(from.numerator + more, from.denominator, part)
-}
-
-// A word of a slice; past the end it is 0.
-fn word(words: &[u32], place: u32) -> u32
-    ensures { λ r. ⌜ r ≡ getD (now (words .entry)) place 0 ⌝ }
-{
-    let at = place as usize;
-    if at < words.len() { words[at] } else { 0 }
 }
 
 // The figure after so many steps up from a row, from the row's own bytes. A word past the end of a slice counts as 0.
@@ -128,7 +117,7 @@ pub fn after<'a>(
     largest: u32,
     own: u32,
 ) -> Figure
-    ensures { λ r. ⌜ r ≡ worked steps (now (parents .entry)) (now (shares .entry)) largest row own ⌝ }
+    ensures { λ r. ⌜ Works steps (now (parents .entry)) (now (shares .entry)) row largest own r ⌝ }
 {
     let mut figure = Figure {
         fits: true,
@@ -147,7 +136,7 @@ pub fn after<'a>(
 
 // A figure rounded up to a whole byte; 0 for a denominator of 0, which a figure that does not fit has.
 pub fn whole_bytes(figure: Figure) -> u64
-    ensures { λ r. ⌜ r ≡ rounded-up (figure .numerator) (figure .denominator) ⌝ }
+    ensures { λ r. ⌜ RoundsUp figure r ⌝ }
 {
     let denominator = figure.denominator;
     if denominator == 0 {

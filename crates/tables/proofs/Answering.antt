@@ -13,7 +13,7 @@ use Rattle.input.specs.declared.Refusal.{Refusal}
 use Rattle.input.specs.Limits.{least-rows, most-rows}
 use Rattle.input.specs.Classes.{Table, Tree, tree-of}
 use Rattle.input.specs.Refusals.{or-else, first-below, rows-refused, shares-refused, table-refused}
-use Rattle.laws.proofs.tree.Trees.{given-none, read-rows}
+use Rattle.laws.proofs.tree.Trees.{given-none, tree-rows}
 use Rattle.tables.specs.declared.Rows.{Rows}
 use Rattle.tables.specs.declared.Reading.{Reading}
 use Rattle.tables.specs.Sized.{Sized}
@@ -68,11 +68,7 @@ module _ (table : Table) (rows : Rows) (eRows : rows ≡ rows-read table (length
   unfolding table-refused rows-read
   table-refusal f g eF eG = rw (eG, eRows, eF) refl
 
-  pub tree-rows : tree-of table .rows ≡ length (table .identifiers)
-  unfolding tree-of
-  tree-rows = read-rows table (length (table .identifiers))
-
   pub accepted : (refusal : Refusal) (senders : List Bool) → senders ≡ senders-below (tree-of table) (length (table .identifiers))
       → reading-of refusal rows senders ≡ accepting refusal (tree-of table)
   unfolding accepting tree-of rows-read
-  accepted refusal senders e = rw (eRows, e, tree-rows) refl
+  accepted refusal senders e = rw (eRows, e, tree-rows table) refl

@@ -8,10 +8,9 @@ use mathlib.Core.List.{List, [], _∷_, _++_}
 use native.Mathlib.Decide.{ℕ-discrete}
 use native.Mathlib.Omega.{arith}
 use lib.Dec.{ltb}
-use lib.ListN.{getD}
 use borrow.Author.Tests.{eq-eqb, ne-eqb}
 use Rattle.input.specs.declared.Refusal.{Refusal}
-use Rattle.input.specs.Classes.{Table, earlier}
+use Rattle.input.specs.Classes.{Table}
 use Rattle.input.specs.Refusals.{nothing, given, or-else, first, first-below, doubled, root-refused, class-refused, row-refused, shares-refused, table-refused}
 use Rattle.laws.proofs.tree.Trees.{or-none}
 
@@ -57,11 +56,9 @@ unfolding first-below
 below-plain at plain zero none = refl
 below-plain at plain (suc n) none = or-else-plain (first-below at n) (at n) (below-plain at plain n) (plain n) none
 
-doubled-plain : (table : Table) (r : ℕ) → Plain (doubled table r)
+doubled-plain : (r other : ℕ) → Plain (doubled r other)
 unfolding doubled
-doubled-plain table r =
-    let other = earlier table r (getD (table .identifiers) r 0) in
-    test-plain (ltb other r) 5 r other (omega arith)
+doubled-plain r other = test-plain (ltb other r) 5 r other (omega arith)
 
 row-plain : (table : Table) (r : ℕ) → Plain (row-refused table r)
 unfolding row-refused root-refused class-refused first
@@ -69,7 +66,7 @@ row-plain table zero =
     or-else-plain (given _ 4 0) _ (given-plain _ 4 0 (omega arith)) (last-plain (given _ 6 0) (given-plain _ 6 0 (omega arith)))
 row-plain table (suc r) =
     or-else-plain (given _ 4 (suc r)) _ (given-plain _ 4 (suc r) (omega arith))
-    (or-else-plain (doubled table (suc r)) _ (doubled-plain table (suc r))
+    (or-else-plain (doubled (suc r) _) _ (doubled-plain (suc r) _)
     (or-else-plain (given _ 7 (suc r)) _ (given-plain _ 7 (suc r) (omega arith))
     (or-else-plain (given _ 8 (suc r)) _ (given-plain _ 8 (suc r) (omega arith))
     (last-plain (given _ 9 (suc r)) (given-plain _ 9 (suc r) (omega arith))))))

@@ -14,14 +14,14 @@ use borrow.Author.Tests.{ne-eqb}
 use Rattle.input.specs.declared.Refusal.{Refusal}
 use Rattle.input.specs.Limits.{most-rows}
 use Rattle.input.specs.Classes.{Table, earlier, parent-of, with-row, read, tree-of, depth}
-use Rattle.input.specs.Refusals.{or-else, first-below, root-refused, class-refused, doubled, row-refused}
+use Rattle.input.specs.Refusals.{or-else, first-below, root-refused, class-refused, row-refused}
 use Rattle.laws.proofs.path.Tests.{cond-most}
 use Rattle.laws.proofs.tree.Trees.{depth-read, depth-at}
 use Rattle.laws.proofs.event.Outset.{zeros-at}
 use Rattle.tables.specs.declared.Row.{Row}
 use Rattle.tables.specs.declared.Rows.{Rows}
 use Rattle.tables.specs.Sized.{Sized}
-use Rattle.tables.specs.Answers.{class-refusal, row-read, rows-read}
+use Rattle.tables.specs.Answers.{row-read, rows-read}
 
 abbrev row-of : Refusal → ℕ → ℕ → Row
 row-of refusal parent depth = record { refusal = refusal; parent = parent; depth = depth }
@@ -53,27 +53,23 @@ module _ (table : Table) (sized : Sized table) where
   root-row zero at refusal parent e1 e2 = rw (e1, e2, depth-found 0 (sized .some)) refl
   root-row (suc r) at refusal parent e1 e2 = absurd (omega arith)
 
-  class-row-refused : (r : ℕ) → r ≢ 0 → row-refused table r ≡ class-refused table r
-  unfolding row-refused
-  class-row-refused zero other = absurd (other refl)
-  class-row-refused (suc r) other = refl
-
-  class-numbers : (r : ℕ) → class-refused table r
-      ≡ class-refusal r (getD (table .identifiers) r 0) (earlier table r (getD (table .identifiers) r 0)) (parent-of table r)
+  class-numbers : (r : ℕ) → r ≢ 0 → row-refused table r
+      ≡ class-refused r (getD (table .identifiers) r 0) (earlier table r (getD (table .identifiers) r 0)) (parent-of table r)
       (getD (table .shares) r 0) (depth (tree-of table) r)
-  unfolding class-refused class-refusal doubled
-  class-numbers r = refl
+  unfolding row-refused
+  class-numbers zero other = absurd (other refl)
+  class-numbers (suc r) other = refl
 
   pub class-row : (r : ℕ) → r < length (table .identifiers) → r ≢ 0
       → (depths : List ℕ) → depths ≡ read table r .depths
       → (refusal : Refusal) (parent other : ℕ) → parent ≡ parent-of table r → other ≡ earlier table r (getD (table .identifiers) r 0)
-      → refusal ≡ class-refusal r (getD (table .identifiers) r 0) other parent (getD (table .shares) r 0) (getD depths parent 0 + 1)
+      → refusal ≡ class-refused r (getD (table .identifiers) r 0) other parent (getD (table .shares) r 0) (getD depths parent 0 + 1)
       → row-of refusal parent (getD depths parent 0 + 1) ≡ row-read table r
   unfolding row-read depth-read
   class-row r inside below depths eDepths refusal parent other eParent eOther eRefusal =
       let found : getD depths parent 0 + 1 ≡ depth (tree-of table) r =
       rw (eDepths, eParent, depth-found r inside, ne-eqb r 0 below, add-one) refl
-      in rw (eRefusal, found, eParent, eOther, class-row-refused r below, class-numbers r) refl
+      in rw (eRefusal, found, eParent, eOther, class-numbers r below) refl
 
   -- one row more
   pub rows-more : (r : ℕ) → r < length (table .identifiers) → (rows : Rows) (row : Row) → rows ≡ rows-read table r → row ≡ row-read table r

@@ -1,31 +1,19 @@
 -- What a check answers: the refusal, and what a run goes on with, which is nothing where something is refused.
 use Prim.Native.Nat.{ℕ, zero, suc}
-use mathlib.Core.Bool.{Bool, false, cond, not}
-use mathlib.Core.List.{List, [], _∷_}
-use lib.Dec.{eqb, ltb}
+use mathlib.Core.Bool.{Bool, false, cond}
+use mathlib.Core.List.{List}
+use lib.Dec.{eqb}
 use lib.ListN.{set, replicate}
 use Rattle.input.specs.declared.Refusal.{Refusal}
-use Rattle.input.specs.Limits.{most-rows, most-depth}
-use Rattle.input.specs.Shares.{allowed}
+use Rattle.input.specs.Limits.{most-rows}
 use Rattle.input.specs.Classes.{Table, Tree, zeros, read, tree-of, depth, parent-of, sends}
-use Rattle.input.specs.Refusals.{nothing, given, or-else, first, first-below, rows-refused, row-refused, table-refused}
+use Rattle.input.specs.Refusals.{or-else, first-below, rows-refused, row-refused, table-refused}
 use Rattle.tables.specs.declared.Row.{Row}
 use Rattle.tables.specs.declared.Rows.{Rows}
 use Rattle.tables.specs.declared.Reading.{Reading}
 
 abbrev pub refusal-of : ℕ → ℕ → ℕ → Refusal
 refusal-of number place second = record { number = number; place = place; second = second }
-
--- a row below the root by its numbers: its identifier, the first row with that identifier, its parent's row, its share, its depth
-unfoldable pub class-refusal : ℕ → ℕ → ℕ → ℕ → ℕ → ℕ → Refusal
-class-refusal r identifier earlier parent share depth =
-    first
-    (given (eqb identifier 0) 4 r
-    ∷ cond (ltb earlier r) (refusal-of 5 r earlier) nothing
-    ∷ given (eqb parent r) 7 r
-    ∷ given (not (allowed share)) 8 r
-    ∷ given (ltb most-depth depth) 9 r
-    ∷ [])
 
 -- row r, read after the rows before it
 unfoldable pub row-read : Table → ℕ → Row

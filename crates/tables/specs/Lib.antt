@@ -1,3 +1,4 @@
--- What the contracts on class tables cite.
+-- What the contracts on class tables state.
 pub mod Sized
 pub mod Answers
+pub mod Stated

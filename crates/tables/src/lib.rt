@@ -6,21 +6,20 @@ ghost use Prim.Native.Nat.{_≤_, _<_, _^_};
 ghost use lib.ListN.{length, take};
 ghost use Rattle.input.specs.Limits.{most-rows};
 ghost use Rattle.input.specs.Classes.{Tree, Table, place-of, read, tree-of, share, child, has-child, sends, children-share};
-ghost use Rattle.input.specs.Refusals.{nothing, given, or-else, first-below, rows-refused, root-refused, shares-refused, table-refused};
+ghost use Rattle.input.specs.Refusals.{nothing, given, or-else, first-below, rows-refused, root-refused, class-refused, shares-refused, table-refused};
 ghost use Rattle.input.specs.Lent.{table-of};
 ghost use Rattle.tables.specs.Sized.{Sized};
-ghost use Rattle.tables.specs.Answers.{refusal-of, class-refusal, row-read, rows-read, senders-below, answer, reading};
+ghost use Rattle.tables.specs.Answers.{refusal-of, row-read, rows-read, senders-below, answer};
 ghost use Rattle.tables.specs.Answers as answers;
+ghost use Rattle.tables.specs.Stated.{Reads, Finds};
+use input::LEAST_ROWS;
+use input::MOST_DEPTH;
+use input::MOST_ROWS;
 use input::Refusal;
-
-const LEAST_ROWS: usize = 2;
-
-const MOST_ROWS: usize = 256;
-
-const MOST_DEPTH: u32 = 8;
-
-// The parts that the children of a row may have together.
-const WHOLE: usize = 840;
+use input::RowMarks;
+use input::RowWords;
+use input::WHOLE;
+use words::wide;
 
 // A row of a table as it is read: what refuses it, its parent's row, its depth.
 struct Row {
@@ -32,18 +31,18 @@ struct Row {
 // All rows as they are read.
 struct Rows {
     refusal: Refusal,
-    parents: [u32; 256],
-    depths: [u32; 256],
-    shares: [u32; 256],
+    parents: RowWords,
+    depths: RowWords,
+    shares: RowWords,
 }
 
 // What a check answers: the first refusal, and where there is none the table as it was read, with the rows that are sending classes.
 pub struct Reading {
     pub refusal: Refusal,
-    pub parents: [u32; 256],
-    pub depths: [u32; 256],
-    pub shares: [u32; 256],
-    pub senders: [bool; 256],
+    pub parents: RowWords,
+    pub depths: RowWords,
+    pub shares: RowWords,
+    pub senders: RowMarks,
 }
 
 pub fn refusal(number: u32, place: usize, second: usize) -> Refusal
@@ -103,7 +102,7 @@ fn place_of(x: u32, words: &[u32], n: usize) -> usize
 
 // The row of the class with this identifier; the number of rows where there is none.
 pub fn row_of(identifiers: &[u32], class: u32) -> usize
-    ensures { λ r. ⌜ (r ≡ place-of class (now (identifiers .entry))) × (r ≤ length (now (identifiers .entry))) ⌝ }
+    ensures { λ r. ⌜ Finds (now (identifiers .entry)) class r × (r ≤ length (now (identifiers .entry))) ⌝ }
 {
     place_of(class, identifiers, identifiers.len())
 }
@@ -155,7 +154,7 @@ fn class_refused(
     depth: u32,
 ) -> Refusal
     requires { ⌜ r < most-rows ⌝ }
-    ensures { λ f. ⌜ f ≡ class-refusal r identifier earlier parent share depth ⌝ }
+    ensures { λ f. ⌜ f ≡ class-refused r identifier earlier parent share depth ⌝ }
 {
     if identifier == 0 {
         return refusal(4, r, 0);
@@ -180,7 +179,7 @@ fn read_row(
     identifiers: &[u32],
     parent_identifiers: &[u32],
     shares: &[u32],
-    depths: &[u32; 256],
+    depths: &RowWords,
     r: usize,
 ) -> Row
     requires { ⌜ Sized (table-of (now identifiers) (now «parent_identifiers») (now shares)) × (r < length (now identifiers))
@@ -211,9 +210,9 @@ fn read_rows(identifiers: &[u32], parent_identifiers: &[u32], shares: &[u32]) ->
     ensures { λ rows. ⌜ rows ≡ rows-read (table-of (now (identifiers .entry)) (now («parent_identifiers» .entry)) (now (shares .entry))) (length (now (identifiers .entry))) ⌝ }
 {
     let mut refusal = none();
-    let mut parents = [0u32; 256];
-    let mut depths = [0u32; 256];
-    let mut parts = [0u32; 256];
+    let mut parents = [0u32; MOST_ROWS];
+    let mut depths = [0u32; MOST_ROWS];
+    let mut parts = [0u32; MOST_ROWS];
     let mut r = 0;
     while r < identifiers.len() {
         let row = read_row(identifiers, parent_identifiers, shares, &depths, r);
@@ -231,14 +230,8 @@ fn read_rows(identifiers: &[u32], parent_identifiers: &[u32], shares: &[u32]) ->
     }
 }
 
-fn wide(x: u32) -> usize
-    ensures { λ r. ⌜ (r ≡ x) × (r < 2 ^ 32) ⌝ }
-{
-    x as usize
-}
-
 // Whether row r is a child of row p.
-fn child(parents: &[u32; 256], p: usize, r: usize) -> bool
+fn child(parents: &RowWords, p: usize, r: usize) -> bool
     requires { ⌜ r < most-rows ⌝ }
     ensures { λ b. ⌜ ((tree : Tree) → tree .parents ≡ now (parents .entry) → b ≡ child tree p r) ⌝ }
 {
@@ -249,7 +242,7 @@ fn child(parents: &[u32; 256], p: usize, r: usize) -> bool
 }
 
 // The share of row r if it is a child of row p.
-fn child_share(parents: &[u32; 256], shares: &[u32; 256], p: usize, r: usize) -> usize
+fn child_share(parents: &RowWords, shares: &RowWords, p: usize, r: usize) -> usize
     requires { ⌜ r < most-rows ⌝ }
     ensures { λ s. ⌜ (s < 2 ^ 32) × ((tree : Tree) → tree .parents ≡ now (parents .entry) → tree .shares ≡ now (shares .entry)
         → s ≡ cond (child tree p r) (share tree r) 0) ⌝ }
@@ -261,7 +254,7 @@ fn child_share(parents: &[u32; 256], shares: &[u32; 256], p: usize, r: usize) ->
 }
 
 // The shares of row p's children, added up.
-fn children_share(parents: &[u32; 256], shares: &[u32; 256], p: usize, rows: usize) -> usize
+fn children_share(parents: &RowWords, shares: &RowWords, p: usize, rows: usize) -> usize
     requires { ⌜ rows ≤ most-rows ⌝ }
     ensures { λ s. ⌜ ((tree : Tree) → tree .parents ≡ now (parents .entry) → tree .shares ≡ now (shares .entry)
         → s ≡ children-share tree p rows) ⌝ }
@@ -276,7 +269,7 @@ fn children_share(parents: &[u32; 256], shares: &[u32; 256], p: usize, rows: usi
 }
 
 // 10, at the lowest parent row.
-fn shares_refused(parents: &[u32; 256], shares: &[u32; 256], rows: usize) -> Refusal
+fn shares_refused(parents: &RowWords, shares: &RowWords, rows: usize) -> Refusal
     requires { ⌜ rows ≤ most-rows ⌝ }
     ensures { λ f. ⌜ ((table : Table) → length (table .identifiers) ≡ rows
         → tree-of table .parents ≡ now (parents .entry) → tree-of table .shares ≡ now (shares .entry)
@@ -286,14 +279,14 @@ fn shares_refused(parents: &[u32; 256], shares: &[u32; 256], rows: usize) -> Ref
     let mut p = 0;
     while p < rows {
         let sum = children_share(parents, shares, p, rows);
-        refusal = or_else(refusal, given(WHOLE < sum, 10, p));
+        refusal = or_else(refusal, given((WHOLE as usize) < sum, 10, p));
         p += 1;
     }
     refusal
 }
 
 // Whether row p has a child.
-fn has_child(parents: &[u32; 256], p: usize, rows: usize) -> bool
+fn has_child(parents: &RowWords, p: usize, rows: usize) -> bool
     requires { ⌜ rows ≤ most-rows ⌝ }
     ensures { λ b. ⌜ ((tree : Tree) → tree .parents ≡ now (parents .entry) → b ≡ has-child tree p rows) ⌝ }
 {
@@ -308,7 +301,7 @@ fn has_child(parents: &[u32; 256], p: usize, rows: usize) -> bool
 }
 
 // Whether row r is a sending class.
-fn sends(parents: &[u32; 256], r: usize, rows: usize) -> bool
+fn sends(parents: &RowWords, r: usize, rows: usize) -> bool
     requires { ⌜ rows ≤ most-rows ⌝ }
     ensures { λ b. ⌜ ((tree : Tree) → tree .parents ≡ now (parents .entry) → tree .rows ≡ rows → b ≡ sends tree r) ⌝ }
 {
@@ -319,11 +312,11 @@ fn sends(parents: &[u32; 256], r: usize, rows: usize) -> bool
 }
 
 // Which rows are sending classes.
-fn senders_of(parents: &[u32; 256], rows: usize) -> [bool; 256]
+fn senders_of(parents: &RowWords, rows: usize) -> RowMarks
     requires { ⌜ rows ≤ most-rows ⌝ }
     ensures { λ s. ⌜ ((tree : Tree) → tree .parents ≡ now (parents .entry) → tree .rows ≡ rows → s ≡ senders-below tree rows) ⌝ }
 {
-    let mut senders = [false; 256];
+    let mut senders = [false; MOST_ROWS];
     let mut r = 0;
     while r < rows {
         senders[r] = sends(parents, r, rows);
@@ -338,10 +331,10 @@ pub fn refusing(refusal: Refusal) -> Reading
 {
     Reading {
         refusal,
-        parents: [0u32; 256],
-        depths: [0u32; 256],
-        shares: [0u32; 256],
-        senders: [false; 256],
+        parents: [0u32; MOST_ROWS],
+        depths: [0u32; MOST_ROWS],
+        shares: [0u32; MOST_ROWS],
+        senders: [false; MOST_ROWS],
     }
 }
 
@@ -373,7 +366,7 @@ pub fn read_sized(identifiers: &[u32], parent_identifiers: &[u32], shares: &[u32
 
 // The check of a class table by itself.
 pub fn read_table(identifiers: &[u32], parent_identifiers: &[u32], shares: &[u32]) -> Reading
-    ensures { λ r. ⌜ r ≡ reading (table-of (now (identifiers .entry)) (now («parent_identifiers» .entry)) (now (shares .entry))) ⌝ }
+    ensures { λ r. ⌜ Reads (table-of (now (identifiers .entry)) (now («parent_identifiers» .entry)) (now (shares .entry))) r ⌝ }
 {
     let refusal = rows_refused(identifiers, parent_identifiers, shares);
     if refusal.number != 0 {

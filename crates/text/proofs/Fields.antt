@@ -4,6 +4,7 @@ use Prim.Native.Nat.{ℕ, _+_, _-_, _*_, _≤_}
 use mathlib.Core.Path.{_≡_, refl, ap}
 use mathlib.Core.Bool.{Bool, true, false, _&&_}
 use mathlib.Core.List.{List, [], _∷_}
+use mathlib.Mathlib.Data.Bool.Basic.{and-eq-true-eq-eq-true-and-eq-true as and-is-true}
 use native.Mathlib.Omega.{arith}
 use lib.Dec.{leb}
 use borrow.Author.Tests.{leb-true, leb-false, le-leb, lt-leb}
@@ -42,18 +43,14 @@ first : (byte : ℕ) → byte ≤ 57 → with-digit Empty (byte - 48) ≡ number
 unfolding with-digit
 first byte h = rw (le-leb (0 * 10 + (byte - 48)) most (omega arith)) (ap Number (omega arith))
 
-both : (a b : Bool) → a && b ≡ true → (a ≡ true) × (b ≡ true)
-both true b e = (refl, e)
-both false b e = (e, absurd (let z : _≡_ {A = ℕ} 0 1 = cc in omega arith))
-
 -- one digit or more
 pub numbers : (byte : ℕ) (before : List ℕ) → digits (byte ∷ before) ≡ true → read (byte ∷ before) ≡ number-or-over (spelled (byte ∷ before))
 unfolding digit digits spelled read with-byte
 numbers byte [] all =
-    let here = both (digit byte) true all .0 in
-    rw here (first byte (leb-true byte 57 (both (leb 48 byte) (leb byte 57) here .1)))
+    let here = and-is-true (digit byte) true .0 all .0 in
+    rw here (first byte (leb-true byte 57 (and-is-true (leb 48 byte) (leb byte 57) .0 here .1)))
 numbers byte (b ∷ before) all =
-    let here = both (digit byte) (digits (b ∷ before)) all in
+    let here = and-is-true (digit byte) (digits (b ∷ before)) .0 all in
     rw (here .0, numbers b before (here .1)) (more (spelled (b ∷ before)) (byte - 48))
 
 -- something else than digits

@@ -1,6 +1,7 @@
 // A file, and how it is read byte by byte.
 ghost use mathlib.Core.Path.{_≡_};
 ghost use Rattle.text.specs.Reading as reading;
+ghost use Rattle.text.specs.Stated.{Begins, Feeds, Finishes, Faults};
 use crate::Found;
 use crate::Kind;
 use crate::Scan;
@@ -13,7 +14,7 @@ const MANY: u64 = 9223372036854775808;
 
 // Nothing is read yet.
 pub fn begin(kind: Kind) -> Scan
-    ensures { λ r. ⌜ r ≡ reading.unread kind ⌝ }
+    ensures { λ r. ⌜ Begins kind r ⌝ }
 {
     let line = empty();
     Scan {
@@ -27,7 +28,7 @@ pub fn begin(kind: Kind) -> Scan
 
 // The scan with one byte more.
 pub fn feed(scan: Scan, byte: u8) -> Scan
-    ensures { λ r. ⌜ r ≡ reading.after scan byte ⌝ }
+    ensures { λ r. ⌜ Feeds scan byte r ⌝ }
 {
     let found = scan.found;
     if wrong(found) {
@@ -50,7 +51,7 @@ pub fn feed(scan: Scan, byte: u8) -> Scan
 
 // What is found at the end of the file.
 pub fn finish(scan: Scan) -> Found
-    ensures { λ r. ⌜ r ≡ reading.at-end scan ⌝ }
+    ensures { λ r. ⌜ Finishes scan r ⌝ }
 {
     let found = scan.found;
     if wrong(found) {
@@ -94,7 +95,7 @@ fn lines_after(lines: u64, found: Found) -> u64
 
 // Whether something is wrong with the line.
 pub fn wrong(found: Found) -> bool
-    ensures { λ r. ⌜ r ≡ reading.wrong found ⌝ }
+    ensures { λ r. ⌜ Faults found r ⌝ }
 {
     match found {
         Found::Nothing => false,

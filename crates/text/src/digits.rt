@@ -1,14 +1,15 @@
 // A field, and how it grows.
 ghost use mathlib.Core.Path.{_≡_};
 ghost use Rattle.text.specs.Reading as reading;
+ghost use Rattle.text.specs.Stated.{Numbers};
 use crate::Field;
 
 // The largest number that a field may hold.
-const MOST: u64 = 4294967295;
+const MOST: u64 = u32::MAX as u64;
 
 // The field that all these bytes make.
 pub fn number(bytes: &[u8]) -> Field
-    ensures { λ r. ⌜ r ≡ reading.field-of (now (bytes .entry)) ⌝ }
+    ensures { λ r. ⌜ Numbers (now (bytes .entry)) r ⌝ }
 {
     let mut field = Field::Empty;
     let mut i = 0;

@@ -1,10 +1,9 @@
 // A signed number for printing.
-ghost use mathlib.Core.Path.{_≡_};
-ghost use lib.IntN.{natAbs};
+ghost use Rattle.text.specs.Stated.{Magnitudes};
 
 // The number without its sign.
 pub fn magnitude(n: i64) -> u64
-    ensures { λ r. ⌜ r ≡ natAbs n ⌝ }
+    ensures { λ r. ⌜ Magnitudes n r ⌝ }
 {
     if n < 0 {
         (-(n + 1)) as u64 + 1

@@ -1,17 +1,7 @@
-// What several crates use alike: arrays with an entry for each row that there can be, numbers as indices, and a word or zero.
+// What several crates use alike: numbers as indices, and a word or zero.
 ghost use mathlib.Core.Path.{_≡_};
 ghost use Prim.Native.Nat.{_<_, _^_};
 ghost use lib.ListN.{getD};
-
-// ── an entry for each row ──
-
-pub type RowLongs = [u64; 256];
-
-pub type RowWords = [u32; 256];
-
-pub type RowMarks = [bool; 256];
-
-// ── numbers ──
 
 // A number as an index.
 pub fn wide(x: u32) -> usize

@@ -34,7 +34,10 @@ fn read_largest(argument: &OsStr) -> Result<u32, Vec<u8>> {
     match read_number(argument.as_encoded_bytes()) {
         Ok(largest) if (1..=MOST_BYTES).contains(&largest) => Ok(largest),
         Err(why @ NotRead::NotDecimal) => Err(cannot_read(" LARGEST", &format!("it is {why}"))),
-        _ => Err(cannot_read(" LARGEST", "a packet has 1 to 2048 bytes")),
+        _ => {
+            let why = format!("a packet has 1 to {MOST_BYTES} bytes");
+            Err(cannot_read(" LARGEST", &why))
+        }
     }
 }
 

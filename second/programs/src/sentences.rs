@@ -1,6 +1,7 @@
 //! A refusal as one sentence for a person: where it is and what to mend.
 
 use crate::answer::Answer;
+use crate::events::MOST_BYTES;
 use crate::shares;
 use crate::slices::{EventSlices, TableSlices};
 
@@ -162,5 +163,5 @@ fn length(events: &EventSlices, event: usize) -> String {
     if class == 0 {
         return format!("{name} is a finish with length {length}; a finish has length 0.");
     }
-    format!("{name}, for class {class}, has length {length}; a packet has 1 to 2048 bytes.")
+    format!("{name}, for class {class}, has length {length}; a packet has 1 to {MOST_BYTES} bytes.")
 }

@@ -4,7 +4,7 @@ use mathlib.Core.Path.{sym, _∙_, ap₂}
 use native.Mathlib.Omega.{arith}
 use borrow.Author.Needs.{needs}
 use Rattle.input.specs.Refusals.{or-else, first, room-refused}
-use Rattle.checks.specs.Counted.{room-refusal, lengths-refused}
+use Rattle.checks.specs.Counted.{lengths-refused}
 use Rattle.tables.proofs.Firsts.{given-last}
 use Rattle.checks.proofs.check_lengths.Statement.{statement}
 use Rattle.checks.proofs.check_lengths.Tie as tie
@@ -25,7 +25,7 @@ or-else-requires-2 : tie.Need-or-else-requires-2
 or-else-requires-2 c κs = search needs
 
 returns : tie.Need-returns
-unfolding lengths-refused first room-refused room-refusal
+unfolding lengths-refused first room-refused
 returns c =
     c .or-else2 .ensures
     ∙ ap₂ or-else (c .before .before .before .before .rows-refused .ensures)

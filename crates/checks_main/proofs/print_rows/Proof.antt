@@ -15,8 +15,14 @@ abbrev μ-loop : tie.MeasureT-loop
 loop-holds : tie.Need-loop-holds Inv-loop μ-loop
 loop-holds c = search needs
 
-word-requires : tie.Need-word-requires Inv-loop μ-loop
-word-requires c κs = search needs
+mul-wide : tie.Need-mul-wide Inv-loop μ-loop
+mul-wide c = search needs
+
+shared-slice-read-wide : tie.Need-shared-slice-read-wide Inv-loop μ-loop
+shared-slice-read-wide c = search needs
+
+wide-requires : tie.Need-wide-requires Inv-loop μ-loop
+wide-requires c κs = search needs
 
 print-row-requires : tie.Need-print-row-requires Inv-loop μ-loop
 print-row-requires c κs = search needs
@@ -36,4 +42,4 @@ returns c = search needs
 pub print-rows-spec : {M : Type 1} → statement M
 print-rows-spec =
     tie.close
-    (tie.spec Inv-loop μ-loop loop-holds word-requires print-row-requires add-i loop-less loop-again returns)
+    (tie.spec Inv-loop μ-loop loop-holds mul-wide shared-slice-read-wide wide-requires print-row-requires add-i loop-less loop-again returns)

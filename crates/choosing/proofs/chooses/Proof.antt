@@ -14,10 +14,12 @@ use Rattle.choosing.proofs.chooses.Statement.{statement}
 use Rattle.choosing.proofs.chooses.Tie as tie
 
 raised-requires : tie.Need-raised-requires
-raised-requires c κs = search needs
+raised-requires c κs =
+    let known = c .before .before .before .pre in
+    (known .0, (known .1 .0, λ i. omega (arith, known .1 .1 .1 .starts i)))
 
-least-finish-requires : tie.Need-least-finish-requires
-least-finish-requires c κs = search needs
+least-requires : tie.Need-least-requires
+least-requires c κs = search needs
 
 set-head-requires : tie.Need-set-head-requires
 set-head-requires c κs = search needs
@@ -27,7 +29,7 @@ takes-requires c κs =
     let picked = c .before .before .before .before .before .before .before in
     let looked = picked .before .before .before .before in
     let known = looked .before .before .before .before .pre in
-    let child : picked .least-finish .result < most-rows = rw (picked .least-finish .ensures) (least-below _ _ _ most-rows (omega arith) (known .0)) in
+    let child : picked .least .result < most-rows = rw (picked .least .ensures) (least-below _ _ _ most-rows (omega arith) (known .0)) in
     let fits : looked .raised .result + most-choice < 2 ^ 64 = rw (looked .raised .ensures) (raised-fits (known .1 .1 .1) _ _ _) in
     (known .1 .0, (child, (fits, (known .1 .1 .0, known .1 .1 .1))))
 
@@ -42,7 +44,7 @@ returns c =
       pick-part,
       raised-part,
       ← looked .raised .ensures,
-      ← picked .least-finish .ensures,
+      ← picked .least .ensures,
       eq-eqb _ _ (branch .if1 .taken),
       c .set-head .ensures .0,
       c .set-head .ensures .1 .0,
@@ -56,7 +58,7 @@ returns-2 c =
     let branch = c .before .before .before .before .before .before .before in
     let picked = branch .before in
     let looked = picked .before .before .before .before in
-    rw (pick-part, raised-part, ← looked .raised .ensures, ← picked .least-finish .ensures, ne-eqb _ _ (branch .if1 .left))
+    rw (pick-part, raised-part, ← looked .raised .ensures, ← picked .least .ensures, ne-eqb _ _ (branch .if1 .left))
     (c .takes .ensures _ ids depths (looked .raised .ensures))
 
 pub chooses-spec : {M : Type 1} → statement M
@@ -64,7 +66,7 @@ chooses-spec =
     tie.close
     (tie.spec
     raised-requires
-    least-finish-requires
+    least-requires
     set-head-requires
     takes-requires
     returns

@@ -1,7 +1,7 @@
 -- `choosing::eligible` meets its contract: a row that waits is eligible by its start alone, any other is not.
 -- Assumes nothing.
 use borrow.Author.Needs.{needs}
-use Rattle.choosing.proofs.Parts.{ready-waiting}
+use Rattle.choosing.proofs.Parts.{eligible-waits}
 use Rattle.choosing.proofs.eligible.Statement.{statement}
 use Rattle.choosing.proofs.eligible.Tie as tie
 
@@ -15,10 +15,10 @@ element-copy-out-result : tie.Need-element-copy-out-result
 element-copy-out-result c = search needs
 
 returns : tie.Need-returns
-returns c = rw (ready-waiting, ← c .before .before .waits .ensures, c .before .if1 .taken)
+returns c = rw (eligible-waits, ← c .before .before .waits .ensures, c .before .if1 .taken)
 
 returns-2 : tie.Need-returns-2
-returns-2 c = rw (ready-waiting, ← c .before .waits .ensures, c .if1 .left)
+returns-2 c = rw (eligible-waits, ← c .before .waits .ensures, c .if1 .left)
 
 pub eligible-spec : {M : Type 1} → statement M
 eligible-spec =

@@ -1,4 +1,4 @@
--- `choosing::new_head` meets its contract: the row has room for one more charge, and the stores are those of the definition.
+-- `choosing::new_head` meets its contract: one more charge is within the tags' leeway, and the stores are those of the definition.
 -- Assumes nothing.
 use borrow.Author.Needs.{needs}
 use Rattle.rules.specs.Steps.{new-head, charged, with-head}

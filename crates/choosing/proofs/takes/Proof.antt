@@ -1,4 +1,4 @@
--- `choosing::takes` meets its contract: the row has room for one more choice; the root is charged nothing, any other row gets
+-- `choosing::takes` meets its contract: one more choice is within the tags' leeway; the root is charged nothing, any other row gets
 -- its head by `new_head`.
 -- Assumes nothing.
 use native.Mathlib.Omega.{arith}
@@ -6,7 +6,7 @@ use borrow.Author.Tests.{eq-eqb, ne-eqb}
 use borrow.Author.Needs.{needs}
 use Rattle.rules.specs.Steps.{takes, with-virtual, with-head}
 use Rattle.choosing.specs.Sizes.{most-charge}
-use Rattle.choosing.proofs.Ticks.{passed-room}
+use Rattle.choosing.proofs.Ticks.{passed-leeway}
 use Rattle.choosing.proofs.Parts.{raised-part}
 use Rattle.choosing.proofs.takes.Statement.{statement}
 use Rattle.choosing.proofs.takes.Tie as tie
@@ -29,13 +29,13 @@ mul-class c = search needs
 element-copy-out-class : tie.Need-element-copy-out-class
 element-copy-out-class c = search needs
 
-cast-virtuals : tie.Need-cast-virtuals
-cast-virtuals c =
+mul-virtuals : tie.Need-mul-virtuals
+mul-virtuals c =
     let start = c .before .before .before in
     omega (arith, start .pre .1 .1 .1 .1 .head-lengths (start .args .k))
 
-mul-virtuals : tie.Need-mul-virtuals
-mul-virtuals c =
+cast-virtuals : tie.Need-cast-virtuals
+cast-virtuals c =
     let start = c .before .before .before in
     omega (arith, start .pre .1 .1 .1 .1 .head-lengths (start .args .k))
 
@@ -59,8 +59,8 @@ new-head-requires c κs =
     let start = c .before .before .before .before .before .before .before .before .before .before in
     let known = start .pre in
     let short = known .1 .1 .1 .1 .head-lengths (start .args .k) in
-    let room = passed-room most-charge (start .args .v) _ (known .1 .1 .0) (known .1 .1 .1 .1) (start .args .p) _ short in
-    (known .0, (known .1 .1 .1 .0, (short, room)))
+    let leeway = passed-leeway most-charge (start .args .v) _ (known .1 .1 .0) (known .1 .1 .1 .1) (start .args .p) _ short in
+    (known .0, (known .1 .1 .1 .0, (short, leeway)))
 
 returns : tie.Need-returns
 unfolding takes with-virtual with-head
@@ -86,8 +86,8 @@ takes-spec =
     element-copy-out-length
     mul-class
     element-copy-out-class
-    cast-virtuals
     mul-virtuals
+    cast-virtuals
     add-virtuals
     mul-virtuals-2
     element-write-virtuals

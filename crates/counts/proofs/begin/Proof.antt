@@ -1,21 +1,19 @@
 -- `counts::begin` meets its contract. The loop's invariant: what remains of the path's changes is the whole of them.
 -- Assumes nothing.
 use Prim.Native.Nat.{_≤_, _<_}
-use mathlib.Core.Path.{_≡_, _∙_}
 use native.Mathlib.Omega.{arith}
 use borrow.Author.Needs.{needs}
-use Rattle.rules.specs.Steps.{on-path, along}
-use Rattle.counts.specs.Given.{own, above, begun, paths}
-use Rattle.counts.proofs.Paths.{begins, goes-up, ends}
+use Rattle.input.specs.Limits.{most-rows}
+use Rattle.rules.proofs.OnPath.{Remains, remains-all, remains-less, remains-last}
+use Rattle.counts.specs.Counts.{own, above, begun, path-tree}
 use Rattle.counts.proofs.begin.Statement.{statement}
 use Rattle.counts.proofs.begin.Tie as tie
 
 abbrev Inv-loop : tie.InvT-loop
 Inv-loop parents depths bytes held since₀ parent-since₀ k r₀ to-begin₀ since parent-since r to-begin =
-    (r < 256)
-    × (on-path to-begin (paths parents depths) (begun held (own bytes)) r since ≡ along (paths parents depths) (begun held (own bytes)) k since₀)
-    × (on-path to-begin (paths parents depths) (begun held (above parents bytes)) r parent-since
-    ≡ along (paths parents depths) (begun held (above parents bytes)) k parent-since₀)
+    (r < most-rows)
+    × Remains (path-tree parents depths) (begun held (own bytes)) k since₀ to-begin r since
+    × Remains (path-tree parents depths) (begun held (above parents bytes)) k parent-since₀ to-begin r parent-since
 
 abbrev μ-loop : tie.MeasureT-loop
 μ-loop parents depths bytes held since₀ parent-since₀ k r₀ to-begin₀ since parent-since r to-begin = to-begin
@@ -24,7 +22,7 @@ entry-requires : tie.Need-entry-requires Inv-loop μ-loop
 entry-requires c κs = search needs
 
 loop-holds : tie.Need-loop-holds Inv-loop μ-loop
-loop-holds c = (search needs, begins _ _ _ _ _ (c .entry .ensures), begins _ _ _ _ _ (c .entry .ensures))
+loop-holds c = (search needs, remains-all (c .entry .ensures), remains-all (c .entry .ensures))
 
 begin-at-requires : tie.Need-begin-at-requires Inv-loop μ-loop
 begin-at-requires c κs = search needs
@@ -45,8 +43,8 @@ loop-again c =
     let test : 0 < at .loop .to-begin = omega (arith, c .before .before .before .before .loop-test .taken) in
     let done = c .before .begin-at .ensures in (
       omega (arith, c .entry2 .ensures, start .pre .1 (at .loop .r) (at .loop .inv .0)),
-      goes-up _ _ _ _ _ _ _ test (c .entry2 .ensures) (done .0) ∙ at .loop .inv .1,
-      goes-up _ _ _ _ _ _ _ test (c .entry2 .ensures) (done .1) ∙ at .loop .inv .2,
+      remains-less test (c .entry2 .ensures) (done .0) (at .loop .inv .1),
+      remains-less test (c .entry2 .ensures) (done .1) (at .loop .inv .2),
     )
 
 begin-at-requires-2 : tie.Need-begin-at-requires-2 Inv-loop μ-loop
@@ -57,7 +55,7 @@ returns c =
     let at = c .before .before .before .before in
     let over : at .loop .to-begin ≤ 0 = omega (arith, c .before .before .before .loop-test .left) in
     let done = c .begin-at2 .ensures in
-    (ends _ _ _ _ _ _ over (done .0) ∙ at .loop .inv .1, ends _ _ _ _ _ _ over (done .1) ∙ at .loop .inv .2)
+    (remains-last over (done .0) (at .loop .inv .1), remains-last over (done .1) (at .loop .inv .2))
 
 pub begin-spec : {M : Type 1} → statement M
 begin-spec =

@@ -7,6 +7,7 @@ use borrow.Author.Tests.{ne-eqb}
 use borrow.Author.Needs.{needs}
 use lib.ListN.{getD}
 use lib.Seq.{set-getD}
+use Rattle.input.specs.Limits.{most-rows}
 use Rattle.counts.proofs.begin_at.Statement.{statement}
 use Rattle.counts.proofs.begin_at.Tie as tie
 
@@ -32,7 +33,7 @@ element-write-since : tie.Need-element-write-since
 element-write-since c = search needs
 
 -- the parent is a row
-above-inside : (c : tie.After-since) → c .before .entry .result < 256
+above-inside : (c : tie.After-since) → c .before .entry .result < most-rows
 above-inside c = let start = c .before .before .before .before in omega (arith, c .before .entry .ensures, start .pre .1 (start .args .r) (start .pre .0))
 
 mul-parent-since : tie.Need-mul-parent-since

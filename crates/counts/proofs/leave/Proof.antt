@@ -2,24 +2,24 @@
 -- grown by more than a length for each row passed.
 -- Assumes nothing.
 use Prim.Native.Nat.{ℕ, pred, _+_, _-_, _*_, _^_, _≤_, _<_}
-use mathlib.Core.Path.{_≡_, _∙_}
 use native.Mathlib.Omega.{arith}
 use borrow.Author.Needs.{needs}
 use lib.ListN.{getD}
-use Rattle.rules.specs.Steps.{on-path, along}
-use Rattle.counts.specs.Given.{paths}
-use Rattle.counts.proofs.Paths.{begins, goes-up, ends, set-at-most}
+use Rattle.input.specs.Limits.{most-rows}
+use Rattle.words.proofs.Entries.{entry-set}
+use Rattle.rules.proofs.OnPath.{Remains, remains-all, remains-less, remains-last}
+use Rattle.counts.specs.Counts.{path-tree}
 use Rattle.counts.proofs.Steps.{left}
 use Rattle.counts.proofs.leave.Statement.{statement}
 use Rattle.counts.proofs.leave.Tie as tie
 
 abbrev Inv-loop : tie.InvT-loop
 Inv-loop parents depths bytes₀ held₀ k length long r₀ to-leave₀ bytes held r to-leave =
-    (r < 256)
-    × (on-path to-leave (paths parents depths) (λ r n. n + length) r bytes ≡ along (paths parents depths) (λ r n. n + length) k bytes₀)
-    × (on-path to-leave (paths parents depths) (λ r n. pred n) r held ≡ along (paths parents depths) (λ r n. pred n) k held₀)
+    (r < most-rows)
+    × Remains (path-tree parents depths) (λ r n. n + length) k bytes₀ to-leave r bytes
+    × Remains (path-tree parents depths) (λ r n. pred n) k held₀ to-leave r held
     × (to-leave ≤ 8)
-    × ((i : ℕ) → i < 256 → getD bytes i 0 ≤ 2 ^ 40 + (8 - to-leave) * 2 ^ 32)
+    × ((i : ℕ) → i < most-rows → getD bytes i 0 ≤ 2 ^ 40 + (8 - to-leave) * 2 ^ 32)
 
 abbrev μ-loop : tie.MeasureT-loop
 μ-loop parents depths bytes₀ held₀ k length long r₀ to-leave₀ bytes held r to-leave = to-leave
@@ -30,8 +30,8 @@ entry-requires c κs = search needs
 loop-holds : tie.Need-loop-holds Inv-loop μ-loop
 loop-holds c = (
   search needs,
-  begins _ _ _ _ _ (c .entry .ensures),
-  begins _ _ _ _ _ (c .entry .ensures),
+  remains-all (c .entry .ensures),
+  remains-all (c .entry .ensures),
   omega (arith, c .entry .ensures),
   λ i inside. omega (arith, c .before .pre .1 .1 .1 i inside),
 )
@@ -58,12 +58,13 @@ loop-again c =
     let done = c .before .leave-at .ensures in
     let here = at .loop .inv .4 (at .loop .r) (at .loop .inv .0) in (
       omega (arith, c .entry2 .ensures, start .pre .1 .0 (at .loop .r) (at .loop .inv .0)),
-      goes-up _ _ _ _ _ _ _ test (c .entry2 .ensures) (done .0) ∙ at .loop .inv .1,
-      goes-up _ _ _ _ _ _ _ test (c .entry2 .ensures) (done .1) ∙ at .loop .inv .2,
+      remains-less test (c .entry2 .ensures) (done .0) (at .loop .inv .1),
+      remains-less test (c .entry2 .ensures) (done .1) (at .loop .inv .2),
       omega arith,
       λ i inside.
           rw (done .0)
-          (set-at-most (at .loop .bytes) (at .loop .r) (getD (at .loop .bytes) (at .loop .r) 0 + start .args .length) (2 ^ 40 + (8 - (at .loop .to-leave - 1)) * 2 ^ 32) i
+          (entry-set (λ (n : ℕ). n ≤ 2 ^ 40 + (8 - (at .loop .to-leave - 1)) * 2 ^ 32) (at .loop .bytes) (at .loop .r)
+          (getD (at .loop .bytes) (at .loop .r) 0 + start .args .length) i
           (omega (arith, start .fits .length)) (omega (arith, at .loop .inv .4 i inside))),
     )
 
@@ -77,8 +78,8 @@ returns c tree box since parent-since by class long counts =
     let at = c .before .before .before .before in
     let over : at .loop .to-leave ≤ 0 = omega (arith, c .before .before .before .loop-test .left) in
     let done = c .leave-at2 .ensures in
-    left tree box _ _ _ _ _ _ _ _ _ _ by class long counts (ends _ _ _ _ _ _ over (done .0) ∙ at .loop .inv .1)
-    (ends _ _ _ _ _ _ over (done .1) ∙ at .loop .inv .2)
+    left tree box _ _ _ _ _ _ _ _ _ _ by class long counts (remains-last over (done .0) (at .loop .inv .1))
+    (remains-last over (done .1) (at .loop .inv .2))
 
 pub leave-spec : {M : Type 1} → statement M
 leave-spec =

@@ -1,10 +1,11 @@
 -- `engine::serve` meets its contract. The loop's invariant: the arrays are the box after the events passed, and the order so far is written.
 -- Assumes nothing.
-use Prim.Native.Nat.{_-_, _≤_}
+use Prim.Native.Nat.{_-_, _≤_, _<_}
 use mathlib.Core.Path.{_≡_, refl, sym, _∙_}
 use native.Mathlib.Numerals.{add-one}
 use native.Mathlib.Omega.{arith}
-use lib.ListN.{length, drop}
+use lib.ListN.{length, getD, drop}
+use Rattle.input.specs.Limits.{most-events}
 use Rattle.input.specs.Classes.{Tree, sends}
 use Rattle.input.specs.Events.{Events, count}
 use Rattle.rules.specs.Box.{Rows, Box}
@@ -12,14 +13,14 @@ use Rattle.rules.specs.Steps.{after}
 use Rattle.rules.specs.Outcome.{over}
 use Rattle.choosing.specs.Arrays.{rows-of}
 use Rattle.input.specs.Lent.{events-of, tree-at}
-use Rattle.events.specs.State.{Fit, Now}
-use Rattle.events.proofs.Fits.{past-now, bytes-now}
-use Rattle.engine.proofs.Opening.{cleared-rest, fresh-now, fresh-order, shown}
+use Rattle.events.specs.State.{Fit, Now, Coming}
+use Rattle.engine.specs.Served.{RowsFor}
+use Rattle.engine.proofs.Opening.{cleared-rest, fresh-now, fresh-order, shown, past-now, bytes-now}
 use Rattle.engine.proofs.serve.Statement.{statement}
 use Rattle.engine.proofs.serve.Tie as tie
 
 abbrev Inv-loop : tie.InvT-loop
-Inv-loop identifiers classes lengths parents depths shares senders order₀ report lags working₀ starts₀ finishes₀ virtuals₀ heads₀ head-lengths₀ head-classes₀ bytes₀ held₀ since₀ parent-since₀ lasts₀ sent₀ i₀ order working starts finishes virtuals heads head-lengths head-classes bytes held since parent-since lasts sent i =
+Inv-loop identifiers classes lengths parents depths shares senders event-rows order₀ report lags working₀ starts₀ finishes₀ virtuals₀ heads₀ head-lengths₀ head-classes₀ bytes₀ held₀ since₀ parent-since₀ lasts₀ sent₀ i₀ order working starts finishes virtuals heads head-lengths head-classes bytes held since parent-since lasts sent i =
     (i ≤ length classes)
     × (length order ≡ length order₀)
     × (length working ≡ length working₀)
@@ -29,7 +30,7 @@ Inv-loop identifiers classes lengths parents depths shares senders order₀ repo
     × (drop (length classes) working ≡ drop (length classes) working₀)
 
 abbrev μ-loop : tie.MeasureT-loop
-μ-loop identifiers classes lengths parents depths shares senders order₀ report lags working₀ starts₀ finishes₀ virtuals₀ heads₀ head-lengths₀ head-classes₀ bytes₀ held₀ since₀ parent-since₀ lasts₀ sent₀ i₀ order working starts finishes virtuals heads head-lengths head-classes bytes held since parent-since lasts sent i = length classes - i
+μ-loop identifiers classes lengths parents depths shares senders event-rows order₀ report lags working₀ starts₀ finishes₀ virtuals₀ heads₀ head-lengths₀ head-classes₀ bytes₀ held₀ since₀ parent-since₀ lasts₀ sent₀ i₀ order working starts finishes virtuals heads head-lengths head-classes bytes held since parent-since lasts sent i = length classes - i
 
 -- ── what is lent ──
 
@@ -43,11 +44,14 @@ module _ (s : tie.Start Inv-loop μ-loop) where
   fit : Fit tree events
   fit = s .pre .0
 
+  rows-for : RowsFor tree events (s .args .event-rows .now)
+  rows-for = s .pre .1 .1 .0
+
   order-room : length (s .args .classes .now) ≤ length (s .args .order .now)
-  order-room = s .pre .1 .1 .0
+  order-room = s .pre .1 .1 .1 .0
 
   working-room : length (s .args .classes .now) ≤ length (s .args .working .now)
-  working-room = s .pre .1 .1 .1 .0
+  working-room = s .pre .1 .1 .1 .1 .0
 
 -- ── the loop ──
 
@@ -60,6 +64,27 @@ module _ (l : tie.At-loop Inv-loop μ-loop) where
 
   working-length : length (l .loop .working) ≡ length (start .args .working .now)
   working-length = l .loop .inv .2 ∙ l .before .before .before .clear .kept .0
+
+-- in it: the event that comes
+module _ (t : tie.In-loop Inv-loop μ-loop) where
+  abbrev passed : tie.At-loop Inv-loop μ-loop
+  passed = t .before
+
+  coming :
+      Coming (tree (start passed)) (events (start passed)) (passed .loop .i) (getD (start passed .args .event-rows .now) (passed .loop .i) 0) (passed .loop .sent) (rows passed)
+      (passed .loop .bytes) (passed .loop .held) (passed .loop .since) (passed .loop .parent-since) (passed .loop .lasts) (passed .loop .working) (passed .loop .order)
+  coming =
+      record {
+        fit = fit (start passed);
+        inside = t .loop-test .taken;
+        row-is = rows-for (start passed) (passed .loop .i) (t .loop-test .taken);
+        links-room = omega (arith, working-length passed, working-room (start passed));
+        order-room = omega (arith, passed .loop .inv .1, order-room (start passed));
+        now = passed .loop .inv .3;
+      }
+
+  few-events : passed .loop .i < most-events
+  few-events = omega (arith, t .loop-test .taken, fit (start passed) .few)
 
 -- after it: the box of the last event
 module _ (a : tie.After-loop Inv-loop μ-loop) where
@@ -90,42 +115,44 @@ loop-holds c =
     let s = c .before .before .before .before .before .before .before .before .before .before in
     (omega arith, refl, refl, fresh-now (tree s) (events s) _ _ (c .before .before .clear .ensures), fresh-order (tree s) (events s) _, refl)
 
+element-copy-out-step : tie.Need-element-copy-out-step Inv-loop μ-loop
+element-copy-out-step c = few-events (c .before .before .before .before .before .before .before .before .before .before .before .before .before)
+
 step-requires : tie.Need-step-requires Inv-loop μ-loop
 step-requires c κs =
-    let l = c .before .before .before .before .before .before .before .before .before .before .before .before .before .before in
-    let s = start l in (
-      fit s,
-      (
-        c .before .before .before .before .before .before .before .before .before .before .before .before .before .loop-test .taken,
-        (omega (arith, l .loop .inv .1, order-room s), (omega (arith, working-length l, working-room s), l .loop .inv .3)),
-      ),
-    )
+    let t = c .before .before .before .before .before .before .before .before .before .before .before .before .before .before in
+    let s = start (passed t) in
+    (s .args .identifiers .now, s .args .classes .now, coming t)
+
+abbrev in-loop : tie.After-slice-known6 Inv-loop μ-loop → tie.In-loop Inv-loop μ-loop
+in-loop c = c .before .before .before .before .before .before .before .before .before .before .before .before .before .before .before .before .before .before .before
 
 add-i : tie.Need-add-i Inv-loop μ-loop
-add-i c =
-    let l = c .before .before .before .before .before .before .before .before .before .before .before .before .before .before .before .before .before .before .before in
-    omega (arith, c .before .before .before .before .before .before .before .before .before .before .before .before .before .before .before .before .before .before .loop-test .taken, fit (start l) .few)
+add-i c = omega (arith, few-events (in-loop c))
 
 loop-less : tie.Need-loop-less Inv-loop μ-loop
-loop-less c = let l = c .before .before .before .before .before .before .before .before .before .before .before .before .before .before .before .before .before .before .before in omega (arith, c .before .before .before .before .before .before .before .before .before .before .before .before .before .before .before .before .before .before .loop-test .taken)
+loop-less c = omega (arith, in-loop c .loop-test .taken)
 
 loop-again : tie.Need-loop-again Inv-loop μ-loop
 loop-again c =
-    let l = c .before .before .before .before .before .before .before .before .before .before .before .before .before .before .before .before .before .before .before in
-    let done = c .before .before .before .before .step in (
-      omega (arith, c .before .before .before .before .before .before .before .before .before .before .before .before .before .before .before .before .before .before .loop-test .taken),
-      done .kept .1 .1 .1 .1 .1 .1 .1 .1 .1 .1 .1 .1 .1 .1 .1 .1 .1 .0 ∙ l .loop .inv .1,
-      done .kept .1 .1 .1 .1 .1 .1 .1 .1 .1 .1 .1 .1 .1 .1 .1 .1 .1 .1 .0 ∙ l .loop .inv .2,
-      rw add-one (done .ensures .0),
-      rw add-one (done .ensures .1 .1 _ (sym (l .loop .inv .1)) (l .loop .inv .4)),
-      done .ensures .1 .0 ∙ l .loop .inv .5,
+    let t = in-loop c in
+    let l = passed t in
+    let s = start l in
+    let step = c .before .before .before .before .step in
+    let gone = step .ensures (s .args .identifiers .now) (s .args .classes .now) (coming t) in (
+      omega (arith, t .loop-test .taken),
+      step .kept .1 .1 .1 .1 .1 .1 .1 .1 .1 .1 .1 .1 .1 .1 .1 .1 .1 .0 ∙ l .loop .inv .1,
+      step .kept .1 .1 .1 .1 .1 .1 .1 .1 .1 .1 .1 .1 .1 .1 .1 .1 .0 ∙ l .loop .inv .2,
+      rw add-one (gone .now),
+      rw add-one (gone .order-on _ (sym (l .loop .inv .1)) (l .loop .inv .4)),
+      gone .links-rest ∙ l .loop .inv .5,
     )
 
 write-report-requires : tie.Need-write-report-requires Inv-loop μ-loop
 unfolding sends
 write-report-requires c κs =
     let s = begun (c .before .before .before .before .before .before) in
-    (fit s .accepted .sound .few-rows, (s .pre .1 .1 .1 .1 .0, λ some. sym (s .pre .1 .0 0 some)))
+    (fit s .accepted .sound .few-rows, (s .pre .1 .1 .1 .1 .1 .0, λ some. sym (s .pre .1 .0 0 some)))
 
 write-lags-requires : tie.Need-write-lags-requires Inv-loop μ-loop
 write-lags-requires c κs =
@@ -133,12 +160,12 @@ write-lags-requires c κs =
     let s = begun a in (
       fit s .accepted .sound .few-rows,
       (
-        s .pre .1 .1 .1 .1 .1,
+        s .pre .1 .1 .1 .1 .1 .1,
         (
           (λ r inside. omega (arith, fit s .inside r)),
           (
             (λ r inside. fit s .parts r),
-            (bytes-now (tree s) (events s) (fit s) _ _ _ _ _ _ _ _ (last a), past-now (tree s) (events s) (fit s) _ _ _ _ _ _ _ _ (last a)),
+            (bytes-now (tree s) (events s) _ _ _ _ _ _ _ _ (last a) (fit s), past-now (tree s) (events s) _ _ _ _ _ _ _ _ (last a) (fit s)),
           ),
         ),
       ),
@@ -163,7 +190,7 @@ returns c =
     record {
       sent-are = last a .sent-are;
       order-is = rw (← end a) (at a .loop .inv .4);
-      report-is = c .before .before .before .before .before .before .before .before .before .write-report .ensures (tree s) (box a) (s .pre .1 .0) (shown (tree s) (events s) _ _ _ _ _ _ _ _ _ (last a));
+      report-is = c .before .before .before .before .before .before .before .before .before .write-report .ensures (tree s) (box a) (s .pre .1 .0) (shown (tree s) (events s) _ _ _ _ _ _ _ _ (last a));
       lags-are = c .before .write-lags .ensures (tree s) (box a) (record { parents = refl; shares = refl }) (last a .counts-are);
       working-rest = at a .loop .inv .5 ∙ cleared-rest (count (events s)) (s .args .working .now) _ (at a .before .before .before .clear .ensures);
     }
@@ -171,5 +198,5 @@ returns c =
 pub serve-spec : {M : Type 1} → statement M
 serve-spec =
     tie.close
-    (tie.spec Inv-loop μ-loop clear-requires loop-holds step-requires add-i loop-less loop-again write-report-requires write-lags-requires same-length
+    (tie.spec Inv-loop μ-loop clear-requires loop-holds element-copy-out-step step-requires add-i loop-less loop-again write-report-requires write-lags-requires same-length
     same-length-2 same-length-3 same-length-4 returns)

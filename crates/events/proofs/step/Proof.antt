@@ -1,174 +1,51 @@
 -- `events::step` meets its contract, by the kind of event: the laws of one event give what each call asks, and the next box.
 -- Assumes nothing.
-use Prim.Native.Nat.{ℕ, _≤_, _<_}
-use mathlib.Core.Path.{_≡_, refl, sym, _∙_}
+use mathlib.Core.Path.{_≡_}
 use native.Mathlib.Omega.{arith}
 use borrow.Author.Needs.{needs}
-use lib.ListN.{length, getD}
-use Rattle.input.specs.declared.Event.the-variants.{Arrival, Finish}
-use Rattle.input.specs.Limits.{most-rows}
-use Rattle.input.specs.Classes.{Tree, row-of}
+use Rattle.input.specs.declared.Event.the-variants.{Finish}
+use Rattle.input.specs.Classes.{Tree}
 use Rattle.input.specs.Events.{Events, event}
+use Rattle.input.specs.Lent.{events-of, tree-with}
 use Rattle.rules.specs.Box.{Rows}
-use Rattle.rules.specs.Steps.{after}
+use Rattle.laws.proofs.event.Turns.{Arrives}
 use Rattle.choosing.specs.Arrays.{rows-of}
-use Rattle.input.specs.Lent.{events-of, tree-at}
-use Rattle.events.specs.State.{Fit, Now}
-use Rattle.events.proofs.Fits.{ready-now}
-use Rattle.events.proofs.Stepping.{room, few-sent, fits, arrival-sender, last-known, arrived-now, arrived-beyond, arrived-order}
-use Rattle.events.proofs.Stepping.{class-few, head-some, head-before, next-before, next-length, next-packet, finished-now, finished-order}
+use Rattle.events.specs.State.{Coming}
+use Rattle.events.proofs.Stepping.{ready, room, few-sent, few-events, inside-lengths, finishes, arrives, few-rows, few-bytes, last-inside, arrived}
+use Rattle.events.proofs.Stepping.{class-few, head-some, head-inside, next-inside, next-length, next-packet, finished}
 use Rattle.events.proofs.step.Statement.{statement}
 use Rattle.events.proofs.step.Tie as tie
 
--- ── what is lent ──
+-- ── what is lent, and the list that the caller has ──
 
 module _ (s : tie.Start) where
   abbrev tree : Tree
-  tree = tree-at (s .args .identifiers .now) (s .args .parents .now) (s .args .depths .now) (s .args .shares .now)
+  tree = tree-with (s .args .rows) (s .pre .0) (s .args .parents .now) (s .args .depths .now) (s .args .shares .now)
 
   abbrev events : Events
-  events = events-of (s .args .classes .now) (s .args .lengths .now)
+  events = events-of (s .pre .1) (s .args .lengths .now)
 
   abbrev rows : Rows
   rows =
       rows-of (s .args .starts .now) (s .args .finishes .now) (s .args .virtuals .now) (s .args .heads .now) (s .args .head-lengths .now)
       (s .args .head-classes .now)
 
-  fit : Fit tree events
-  fit = s .pre .0
-
-  inside : s .args .i < length (s .args .classes .now)
-  inside = s .pre .1 .0
-
-  order-room : length (s .args .classes .now) ≤ length (s .args .order .now)
-  order-room = s .pre .1 .1 .0
-
-  working-room : length (s .args .classes .now) ≤ length (s .args .working .now)
-  working-room = s .pre .1 .1 .1 .0
-
-  now-is :
-      Now tree events (s .args .i) (s .args .sent) rows (s .args .bytes .now) (s .args .held .now) (s .args .since .now) (s .args .parent-since .now)
-      (s .args .lasts .now) (s .args .working .now)
-  now-is = s .pre .1 .1 .1 .1
-
--- ── an arrival ──
-
-module _ (p : tie.After-row-of) where
-  abbrev e : tie.After-event
-  e = p .before .before .before
-
-  abbrev s : tie.Start
-  s = e .before .before .before .before .before .before .before .before .before .before
-
-  abbrev class : ℕ
-  class = e .event .given .0 .0
-
-  abbrev size : ℕ
-  size = e .event .given .0 .1 .0
-
-  arrives : event (events s) (s .args .i) ≡ Arrival class size
-  unfolding event
-  arrives = sym (e .before .before .decode .ensures) ∙ e .event .given .1
-
-  found : p .row-of .result ≡ row-of (tree s) class
-  unfolding row-of
-  found = p .row-of .ensures .0
-
-  few-rows : p .row-of .result < most-rows
-  few-rows =
-      omega (arith, arrival-sender (tree s) (events s) (fit s) (s .args .i) (inside s) class size arrives (p .row-of .result) found .inside, fit s .accepted .sound .few-rows)
-
-  last-place : getD (s .args .lasts .now) (p .row-of .result) 0 ≤ s .args .i
-  last-place = last-known (tree s) (events s) (fit s) (s .args .i) (inside s) class size arrives (p .row-of .result) found _ _ _ _ _ _ _ _ (now-is s)
+  coming :
+      Coming tree events (s .args .i) (s .args .row) (s .args .sent) rows (s .args .bytes .now) (s .args .held .now) (s .args .since .now) (s .args .parent-since .now)
+      (s .args .lasts .now) (s .args .working .now) (s .args .order .now)
+  coming = s .pre .2
 
 -- ── a finish ──
 
-module _ (t : tie.After-enum-told) where
+module _ (t : tie.Then1) where
   abbrev begun : tie.Start
-  begun = t .before .before .before .before .before .before .before .before .before .before
+  begun = t .before .before .before .before
 
-  finishes : event (events begun) (begun .args .i) ≡ Finish
-  unfolding event
-  finishes = sym (t .before .before .decode .ensures) ∙ t .enum-told .given .1
+  is-finish : event (events begun) (begun .args .i) ≡ Finish
+  is-finish = finishes (coming begun) (t .if1 .taken)
 
-  class-low : getD (begun .args .head-classes .now) 0 0 < most-rows
-  class-low = class-few (tree begun) (events begun) (fit begun) (begun .args .i) (inside begun) finishes _ _ _ _ _ _ _ _ (now-is begun)
-
-module _ (q : tie.After-part) where
-  abbrev told : tie.After-enum-told
-  told = q .before .before .before .before .before .before
-
-  next-low : q .part .result ≤ begun told .args .i
-  next-low =
-      next-before (tree (begun told)) (events (begun told)) (fit (begun told)) (begun told .args .i) (inside (begun told)) (finishes told) _ _ _ _ _ _ _ _ (now-is (begun told))
-      (q .part .result) (q .part .ensures .0)
-
--- ── the needs ──
-
-mul-decode : tie.Need-mul-decode
-mul-decode c = search needs
-
-shared-slice-read-decode : tie.Need-shared-slice-read-decode
-shared-slice-read-decode c = search needs
-
-mul-decode-2 : tie.Need-mul-decode-2
-mul-decode-2 c = search needs
-
-shared-slice-read-decode-2 : tie.Need-shared-slice-read-decode-2
-shared-slice-read-decode-2 c = search needs
-
-decode-requires : tie.Need-decode-requires
-decode-requires c κs = search needs
-
-enum-known-event : tie.Need-enum-known-event
-enum-known-event c = search needs
-
-element-copy-out-idle : tie.Need-element-copy-out-idle
-element-copy-out-idle c = search needs
-
-row-of-requires : tie.Need-row-of-requires
-row-of-requires c κs = search needs
-
-cast-arrive : tie.Need-cast-arrive
-cast-arrive c = search needs
-
-arrive-requires : tie.Need-arrive-requires
-arrive-requires c κs =
-    let p = c .before .before .before .before .before .before .before .before .before .before in
-    let start = s p in (
-      ready-now (tree start) (events start) (fit start) (start .args .i) (omega (arith, inside start)) _ _ _ _ _ _ _ _ (now-is start),
-      (
-        few-rows p,
-        (
-          omega (arith, inside start, fit start .few),
-          fits (tree start) (events start) (fit start) (start .args .i) (inside start) (class p) (size p) (arrives p) .few-bytes,
-        ),
-      ),
-    )
-
-cast-join : tie.Need-cast-join
-cast-join c = let start = s (c .before .before .before .before .before .before .before .before .before .before .before .before .before) in omega (arith, inside start, fit start .few)
-
-add-join : tie.Need-add-join
-add-join c = let start = s (c .before .before .before .before .before .before .before .before .before .before .before .before .before) in omega (arith, inside start, fit start .few)
-
-join-requires : tie.Need-join-requires
-join-requires c κs =
-    let p = c .before .before .before .before .before .before .before .before .before .before .before .before .before in
-    (few-rows p, omega (arith, last-place p, inside (s p), working-room (s p)))
-
-element-copy-out-send : tie.Need-element-copy-out-send
-element-copy-out-send c = search needs
-
-send-requires : tie.Need-send-requires
-send-requires c κs =
-    let start = s (c .before .before .before .before .before .before .before .before .before .before .before .before .before .before .before .before .before .before) in (
-      room (tree start) (events start) (fit start) (start .args .i) (inside start) _ _ _ _ _ _ _ _ (start .args .order .now) (now-is start) (order-room start),
-      few-sent (tree start) (events start) (fit start) (start .args .i) (inside start) _ _ _ _ _ _ _ _ (now-is start),
-    )
-
-enum-told : tie.Need-enum-told
-enum-told c = search needs
+abbrev then-at : tie.After-leave-first → tie.Then1
+then-at q = q .before .before .before .before .before .before
 
 element-copy-out-wide : tie.Need-element-copy-out-wide
 element-copy-out-wide c = search needs
@@ -176,43 +53,37 @@ element-copy-out-wide c = search needs
 wide-requires : tie.Need-wide-requires
 wide-requires c κs = search needs
 
-element-copy-out-part : tie.Need-element-copy-out-part
-element-copy-out-part c = search needs
+element-copy-out-leave-first : tie.Need-element-copy-out-leave-first
+element-copy-out-leave-first c = search needs
 
-part-requires : tie.Need-part-requires
-part-requires c κs =
+leave-first-requires : tie.Need-leave-first-requires
+leave-first-requires c κs =
     let t = c .before .before .before .before .before in
-    let start = begun t in (
-      omega (arith, c .before .wide .ensures, class-low t),
-      (
-        head-some (tree start) (events start) (fit start) (start .args .i) (inside start) (finishes t) _ _ _ _ _ _ _ _ (now-is start),
-        omega (arith, head-before (tree start) (events start) (fit start) (start .args .i) (inside start) (finishes t) _ _ _ _ _ _ _ _ (now-is start), inside start, working-room start),
-      ),
-    )
+    let known = coming (begun t) in
+    (omega (arith, c .before .wide .ensures .0, class-few known (is-finish t)), (head-some known (is-finish t), head-inside known (is-finish t)))
 
 length-of-requires : tie.Need-length-of-requires
-length-of-requires c κs = let start = begun (told c) in omega (arith, next-low c, inside start, fit start .as-long)
+length-of-requires c κs = next-inside (coming (begun (then-at c))) (is-finish (then-at c)) (c .leave-first .result) (c .leave-first .ensures .0)
 
 depart-requires : tie.Need-depart-requires
 depart-requires c κs =
-    let q = c .before .before .before .before .before .before .before .before .before in
-    let start = begun (told q) in
-    let bytes =
-    next-length (tree start) (events start) (fit start) (start .args .i) (inside start) (finishes (told q)) _ _ _ _ _ _ _ _ (now-is start) (q .part .result)
-    (q .part .ensures .0) in (
-      ready-now (tree start) (events start) (fit start) (start .args .i) (omega (arith, inside start)) _ _ _ _ _ _ _ _ (now-is start),
-      (class-low (told q), omega (arith, c .before .before .before .before .before .before .before .before .length-of .ensures, bytes)),
+    let long = c .before .before .before .before .before .before .before .before in
+    let t = then-at (long .before) in
+    let known = coming (begun t) in (
+      ready known,
+      (
+        class-few known (is-finish t),
+        rw (long .length-of .ensures) (next-length known (is-finish t) (long .before .leave-first .result) (long .before .leave-first .ensures .0)),
+      ),
     )
 
-element-copy-out-send-2 : tie.Need-element-copy-out-send-2
-element-copy-out-send-2 c = search needs
+element-copy-out-send : tie.Need-element-copy-out-send
+element-copy-out-send c = search needs
 
-send-requires-2 : tie.Need-send-requires-2
-send-requires-2 c κs =
-    let start = begun (c .before .before .before .before .before .before .before .before .before .before .before .before .before .before .before .before .before .before) in (
-      room (tree start) (events start) (fit start) (start .args .i) (inside start) _ _ _ _ _ _ _ _ (start .args .order .now) (now-is start) (order-room start),
-      few-sent (tree start) (events start) (fit start) (start .args .i) (inside start) _ _ _ _ _ _ _ _ (now-is start),
-    )
+send-requires : tie.Need-send-requires
+send-requires c κs =
+    let known = coming (begun (then-at (c .before .before .before .before .before .before .before .before .before .before .before .before))) in
+    (room known, few-sent known)
 
 same-length : tie.Need-same-length
 same-length c = search needs
@@ -221,24 +92,67 @@ same-length-2 : tie.Need-same-length-2
 same-length-2 c = search needs
 
 returns : tie.Need-returns
-returns c =
-    let p = c .before .before .before .before .before .before .before .before .before .before .before .before .before .before .before .before .before .before .before .before .before in
-    let start = s p in
-    let arrived = c .before .before .before .before .before .before .before .before .before .before .arrive in
-    let linked = c .before .before .before .before .before .before .before .join in
+returns c ids classes given =
     let sent = c .before .before .send in
-    let at = arrived .ensures .0 (start .args .identifiers .now) _ (now-is start .rows-are) in (
-      arrived-now (tree start) (events start) (fit start) (start .args .i) (inside start) (class p) (size p) (arrives p) (p .row-of .result) (found p) _ _ _ _ _ _ _ _
-          (now-is start) _ at _ _ _ _ _ _ (working-room start)
-          (arrived .ensures .1 (start .args .identifiers .now) _ (now-is start .counts-are)) (sent .ensures .1) (linked .ensures .0) (linked .ensures .1),
-      (
-        arrived-beyond (tree start) (events start) (fit start) (start .args .i) (inside start) (class p) (size p) (arrives p) (p .row-of .result) (found p) _ _ _ _ _ _ _ _
-            (now-is start) _ at _ (linked .ensures .1),
-        λ lent same was.
-            arrived-order (tree start) (events start) (fit start) (start .args .i) (inside start) (class p) (size p) (arrives p) (p .row-of .result) (found p) _ _ _ _ _ _ _ _
-            (now-is start) _ at lent _ _ (order-room start) same was (sent .ensures .0),
-      ),
-    )
+    let departed = c .before .before .before .before .before .depart in
+    let long = c .before .before .before .before .before .before .before .before .before .before .before .before .before .before in
+    let q = long .before in
+    let is = finishes given (then-at q .if1 .taken) in
+    let next = q .leave-first .result in
+    let found = q .leave-first .ensures .0 in
+    finished given is next found _ (q .before .before .wide .result) _ _ _ _ _
+    (departed .ensures .0 ids _ (given .now .rows-are) (rw (long .length-of .ensures) (next-packet given is next found)))
+    (departed .ensures .1 ids _ _ _ (given .now .rows-are) (given .now .counts-are))
+    (q .before .before .wide .ensures .0) (q .leave-first .ensures .1) (sent .ensures .0) (sent .ensures .1)
+
+-- ── an arrival ──
+
+module _ (e : tie.Else1) where
+  abbrev met : tie.Start
+  met = e .before .before .before .before
+
+  is-arrival : Arrives (events met) (met .args .i)
+  is-arrival = arrives (coming met) (e .if1 .left)
+
+abbrev else-at : tie.After-shared-slice-known2 → tie.Else1
+else-at k = k .before .before .before .before .before .before .before .before .before .before .before .before
+
+element-copy-out-idle : tie.Need-element-copy-out-idle
+element-copy-out-idle c = search needs
+
+cast-arrive : tie.Need-cast-arrive
+cast-arrive c = omega (arith, few-events (coming (met (c .before .before .before .before .before .before .before .before .before .before .before))))
+
+mul-arrive : tie.Need-mul-arrive
+mul-arrive c = omega (arith, few-events (coming (met (c .before .before .before .before .before .before .before .before .before .before .before))))
+
+shared-slice-read-arrive : tie.Need-shared-slice-read-arrive
+shared-slice-read-arrive c = inside-lengths (coming (met (else-at c)))
+
+arrive-requires : tie.Need-arrive-requires
+arrive-requires c κs =
+    let e = else-at c in
+    let known = coming (met e) in
+    (ready known, (few-rows known (is-arrival e), (omega (arith, few-events known), few-bytes known (is-arrival e))))
+
+cast-join : tie.Need-cast-join
+cast-join c = omega (arith, few-events (coming (met (else-at (c .before .before .before)))))
+
+add-join : tie.Need-add-join
+add-join c = omega (arith, few-events (coming (met (else-at (c .before .before .before)))))
+
+join-requires : tie.Need-join-requires
+join-requires c κs =
+    let e = else-at (c .before .before .before) in
+    (few-rows (coming (met e)) (is-arrival e), last-inside (coming (met e)) (is-arrival e))
+
+element-copy-out-send-2 : tie.Need-element-copy-out-send-2
+element-copy-out-send-2 c = search needs
+
+send-requires-2 : tie.Need-send-requires-2
+send-requires-2 c κs =
+    let known = coming (met (else-at (c .before .before .before .before .before .before .before .before))) in
+    (room known, few-sent known)
 
 same-length-3 : tie.Need-same-length-3
 same-length-3 c = search needs
@@ -247,58 +161,39 @@ same-length-4 : tie.Need-same-length-4
 same-length-4 c = search needs
 
 returns-2 : tie.Need-returns-2
-returns-2 c =
-    let q = c .before .before .before .before .before .before .before .before .before .before .before .before .before .before .before in
-    let start = begun (told q) in
-    let departed = c .before .before .before .before .before .depart in
+returns-2 c ids classes given =
     let sent = c .before .before .send2 in
-    let next = q .part .result in
-    let first =
-    next-packet (tree start) (events start) (fit start) (start .args .i) (inside start) (finishes (told q)) _ _ _ _ _ _ _ _ (now-is start) next (q .part .ensures .0) in
-    let at =
-    departed .ensures .0 (start .args .identifiers .now) (after (tree start) (events start) (start .args .i)) (now-is start .rows-are) (rw (c .before .before .before .before .before .before .before .before .before .before .before .before .before .before .length-of .ensures) first) in (
-      finished-now (tree start) (events start) (fit start) (start .args .i) (inside start) (finishes (told q)) _ _ _ _ _ _ _ _ (now-is start) next (q .part .ensures .0) _ at
-          _ (q .before .before .wide .result) _ _ _ (departed .ensures .1 (start .args .identifiers .now) _ _ _ (now-is start .rows-are) (now-is start .counts-are)) (sent .ensures .1)
-          (q .before .before .wide .ensures) (q .part .ensures .1),
-      (
-        refl,
-        λ lent same was.
-            finished-order (tree start) (events start) (fit start) (start .args .i) (inside start) (finishes (told q)) _ _ _ _ _ _ _ _ (now-is start) next (q .part .ensures .0)
-            _ at lent _ _ (order-room start) same was (sent .ensures .0),
-      ),
-    )
+    let joined = c .before .before .before .before .before .before .before .join in
+    let arriving = c .before .before .before .before .before .before .before .before .before .before in
+    arrived given (arrives given (else-at (arriving .before) .if1 .left)) _ _ _ _ _ _ _ _
+    (arriving .arrive .ensures .0 ids _ (given .now .rows-are)) (arriving .arrive .ensures .1 ids _ (given .now .counts-are))
+    (joined .ensures .0) (joined .ensures .1) (sent .ensures .0) (sent .ensures .1)
 
 pub step-spec : {M : Type 1} → statement M
 step-spec =
     tie.close
     (tie.spec
-    mul-decode
-    shared-slice-read-decode
-    mul-decode-2
-    shared-slice-read-decode-2
-    decode-requires
-    enum-known-event
+    element-copy-out-wide
+    wide-requires
+    element-copy-out-leave-first
+    leave-first-requires
+    length-of-requires
+    depart-requires
+    element-copy-out-send
+    send-requires
+    same-length
+    same-length-2
+    returns
     element-copy-out-idle
-    row-of-requires
     cast-arrive
+    mul-arrive
+    shared-slice-read-arrive
     arrive-requires
     cast-join
     add-join
     join-requires
-    element-copy-out-send
-    send-requires
-    enum-told
-    element-copy-out-wide
-    wide-requires
-    element-copy-out-part
-    part-requires
-    length-of-requires
-    depart-requires
     element-copy-out-send-2
     send-requires-2
-    same-length
-    same-length-2
-    returns
     same-length-3
     same-length-4
     returns-2)

@@ -1,4 +1,4 @@
--- `hierarchy::arrive` meets its contract: small tags have room for the charge of the packet and the choices above.
+-- `hierarchy::arrive` meets its contract: small tags have the leeway for the packet's charge and the choices above.
 -- Assumes nothing.
 use Prim.Native.Nat.{_+_}
 use mathlib.Core.List.{[]}
@@ -9,7 +9,7 @@ use Rattle.rules.specs.Steps.{arrives}
 use Rattle.choosing.specs.Sizes.{most-charge}
 use Rattle.choosing.proofs.Parts.{head-part}
 use Rattle.hierarchy.specs.Sizes.{most-climb}
-use Rattle.hierarchy.proofs.Enough.{same-room, small-room, new-head-room}
+use Rattle.hierarchy.proofs.Enough.{same-leeway, small-leeway, new-head-leeway}
 use Rattle.hierarchy.proofs.arrive.Statement.{statement}
 use Rattle.hierarchy.proofs.arrive.Tie as tie
 
@@ -29,7 +29,7 @@ cast-class c = search needs
 new-head-requires : tie.Need-new-head-requires
 new-head-requires c κs =
     let known = c .before .before .before .before .before .before .before .before .before .pre .1 in
-    (known .0, (known .1 .1 .1 .1 .0, (known .1 .1 .1 .0, small-room most-charge _ (lit< tt) (known .1 .1 .1 .1 .1))))
+    (known .0, (known .1 .1 .1 .1 .0, (known .1 .1 .1 .0, small-leeway most-charge _ (lit< tt) (known .1 .1 .1 .1 .1))))
 
 mul-up : tie.Need-mul-up
 mul-up c = search needs
@@ -41,8 +41,8 @@ up-requires : tie.Need-up-requires
 up-requires c κs =
     let charged = c .before .before .before .before .before .before .before in
     let known = charged .before .before .before .before .before .before .before .before .before .before .pre in
-    let room = small-room (most-climb + most-charge) _ (lit< tt) (known .1 .1 .1 .1 .1 .1) in
-    let left = same-room (charged .new-head .ensures 0 [] []) (new-head-room most-climb _ _ room _ _ _ _ _ (known .1 .1 .1 .1 .0)) in
+    let leeway = small-leeway (most-climb + most-charge) _ (lit< tt) (known .1 .1 .1 .1 .1 .1) in
+    let left = same-leeway (charged .new-head .ensures 0 [] []) (new-head-leeway most-climb _ _ leeway _ _ _ _ _ (known .1 .1 .1 .1 .0)) in
     (known .0, (known .1 .0, (known .1 .1 .1 .0, (known .1 .1 .1 .1 .1 .0, left))))
 
 returns-2 : tie.Need-returns-2

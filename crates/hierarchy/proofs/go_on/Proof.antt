@@ -1,4 +1,4 @@
--- `hierarchy::go_on` meets its contract: of the later packets only the first matters, and small tags have room for its charge
+-- `hierarchy::go_on` meets its contract: of the later packets only the first matters, and small tags have the leeway for its charge
 -- and the choices above.
 -- Assumes nothing.
 use Prim.Native.Nat.{_+_}
@@ -8,15 +8,15 @@ use borrow.Author.Needs.{needs}
 use Rattle.rules.specs.Steps.{goes-on}
 use Rattle.choosing.specs.Sizes.{most-charge}
 use Rattle.hierarchy.specs.Sizes.{most-climb}
-use Rattle.hierarchy.proofs.Later.{renews-first, renews-room}
-use Rattle.hierarchy.proofs.Enough.{same-room, small-room}
+use Rattle.hierarchy.proofs.Later.{renews-first, renews-leeway}
+use Rattle.hierarchy.proofs.Enough.{same-leeway, small-leeway}
 use Rattle.hierarchy.proofs.go_on.Statement.{statement}
 use Rattle.hierarchy.proofs.go_on.Tie as tie
 
 renew-requires : tie.Need-renew-requires
 renew-requires c κs =
     let known = c .before .before .before .before .before .before .pre .1 in
-    (known .0, (known .1 .1 .1 .0, (known .1 .1 .0, small-room most-charge _ (lit< tt) (known .1 .1 .1 .1))))
+    (known .0, (known .1 .1 .1 .0, (known .1 .1 .0, small-leeway most-charge _ (lit< tt) (known .1 .1 .1 .1))))
 
 mul-up : tie.Need-mul-up
 mul-up c = search needs
@@ -28,8 +28,8 @@ up-requires : tie.Need-up-requires
 up-requires c κs =
     let renewed = c .before .before .before .before .before .before .before in
     let known = renewed .before .before .before .before .before .before .before .pre in
-    let room = small-room (most-climb + most-charge) _ (lit< tt) (known .1 .1 .1 .1 .1) in
-    let left = same-room (renewed .renew .ensures 0 [] []) (renews-room _ _ _ most-climb _ _ (known .1 .1 .1 .0) room) in
+    let leeway = small-leeway (most-climb + most-charge) _ (lit< tt) (known .1 .1 .1 .1 .1) in
+    let left = same-leeway (renewed .renew .ensures 0 [] []) (renews-leeway _ _ _ most-climb _ _ (known .1 .1 .1 .0) leeway) in
     (known .0, (known .1 .0, (known .1 .1 .0, (known .1 .1 .1 .1 .0, left))))
 
 returns : tie.Need-returns

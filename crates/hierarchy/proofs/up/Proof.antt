@@ -1,4 +1,4 @@
--- `hierarchy::up` meets its contract: the loop has the room for a choice at each row that is left, and what remains to be done
+-- `hierarchy::up` meets its contract: a choice at each row that is left is within the tags' leeway, and what remains to be done
 -- is all that was to be done at first.
 -- Assumes nothing.
 use Prim.Native.Nat.{_<_, _*_}
@@ -8,10 +8,10 @@ use native.Mathlib.Omega.{arith}
 use Rattle.input.specs.Limits.{most-rows}
 use Rattle.choosing.specs.Sizes.{Leeway, most-choice}
 use Rattle.choosing.specs.Arrays.{rows-of}
-use Rattle.choosing.proofs.Ticks.{less-room}
+use Rattle.choosing.proofs.Ticks.{less-leeway}
 use Rattle.hierarchy.specs.Sizes.{most-climb}
 use Rattle.hierarchy.proofs.Climb.{Rising, rising-all, rising-done, rising-stops, rising-goes}
-use Rattle.hierarchy.proofs.Enough.{chosen-room}
+use Rattle.hierarchy.proofs.Enough.{chosen-leeway}
 use Rattle.hierarchy.proofs.up.Statement.{statement}
 use Rattle.hierarchy.proofs.up.Tie as tie
 
@@ -29,7 +29,7 @@ abbrev μ-loop : tie.MeasureT-loop
 loop-holds : tie.Need-loop-holds Inv-loop μ-loop
 loop-holds c =
     let known = c .pre .1 in
-    (known .0, less-room most-climb _ _ (omega (arith, known .1 .0)) (known .1 .1 .1), rising-all _ _ _ _ _ _ _)
+    (known .0, less-leeway most-climb _ _ (omega (arith, known .1 .0)) (known .1 .1 .1), rising-all _ _ _ _ _ _ _)
 
 mul-p : tie.Need-mul-p Inv-loop μ-loop
 mul-p c = omega arith
@@ -57,8 +57,8 @@ chooses-requires c κs =
     let turn = c .before .before .before .before .before .before .before .before .before .before in
     let now = turn .before .loop in
     let known = turn .before .before .pre in
-    let room = less-room _ most-choice _ (omega (arith, turn .loop-test .taken)) (now .inv .1) in
-    (known .0, (known .1 .1 .1 .0 (now .r), (known .1 .1 .1 .0, room)))
+    let leeway = less-leeway _ most-choice _ (omega (arith, turn .loop-test .taken)) (now .inv .1) in
+    (known .0, (known .1 .1 .1 .0 (now .r), (known .1 .1 .1 .0, leeway)))
 
 sub-d : tie.Need-sub-d Inv-loop μ-loop
 sub-d c = omega arith
@@ -74,7 +74,7 @@ loop-again c =
     let some : 0 < now .d = turn .loop-test .taken in
     let has = sym (branch .before .has-head .ensures) ∙ branch .if1 .left in (
       turn .before .before .pre .1 .1 .1 .0 (now .r),
-      chosen-room (now .d) _ _ _ _ _ some (c .chooses .ensures [] []) (now .inv .1),
+      chosen-leeway (now .d) _ _ _ _ _ some (c .chooses .ensures [] []) (now .inv .1),
       rising-goes _ _ _ _ _ _ _ _ _ _ (now .inv .2) _ some has (c .chooses .ensures),
     )
 

@@ -21,7 +21,7 @@ use Rattle.laws.specs.Sound.{Sound, Kid, Inner, Sender, ArrivalFits}
 use Rattle.laws.specs.Moves.{SameHead, Settled}
 use Rattle.laws.specs.Kept.{Kept, InLine, HeadOf, held-below, Covered}
 use Rattle.laws.specs.History.{Accepted, largest-for}
-use Rattle.laws.specs.Line.{line-class, left}
+use Rattle.rules.specs.Box.{line-class, left}
 use Rattle.laws.proofs.path.Tests.{cond-least}
 use Rattle.laws.proofs.path.Heads.{has-true}
 use Rattle.laws.proofs.tree.Paths.{kid-child, child-kid, self-within, sender-alone, along-length, along-at}

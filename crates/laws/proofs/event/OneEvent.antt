@@ -15,7 +15,7 @@ use Rattle.rules.specs.Promise.{within}
 use Rattle.laws.specs.Sound.{Sound, Inner, Sender}
 use Rattle.laws.specs.Moves.{Still, ArrivalAt, DepartureAt}
 use Rattle.laws.specs.Kept.{InLine, Kept}
-use Rattle.laws.specs.Line.{line-class, left}
+use Rattle.rules.specs.Box.{line-class, left}
 use Rattle.laws.proofs.path.Tests.{cond-most}
 use Rattle.laws.proofs.tree.Paths.{along-at}
 use Rattle.laws.proofs.level.Levels.{Even}

@@ -78,6 +78,20 @@ module _ (events : Events) (n : ℕ) where
 
 -- ── not refused ──
 
+room-passes : (room : Room) (rows events fewer : ℕ) → fewer ≤ events → room-refused rows events room .number ≡ 0 → room-refused rows fewer room .number ≡ 0
+unfolding room-refused
+room-passes room rows events fewer less ok =
+    let short-order = ltb (room .order) events in
+    let short-working = ltb (room .working) events in
+    let short-report = ltb (room .report) (report-words * rows) in
+    let last = or-is-false (short-order || short-working || short-report) (ltb (room .lags) rows) .0 (given-none _ _ _ ok) in
+    let third = or-is-false (short-order || short-working) short-report .0 (last .0) in
+    let second = or-is-false short-order short-working .0 (third .0) in
+    let order-room = ltb-false (room .order) events (second .0) in
+    let working-room = ltb-false (room .working) events (second .1) in
+    given-passes _ 3 0
+    (rw (le-ltb (room .order) fewer (omega arith), le-ltb (room .working) fewer (omega arith), third .1, last .1))
+
 module _ (table : Table) (events : Events) (n : ℕ) (earlier : n ≤ count events) where
   lengths-pass : events-refused events .number ≡ 0 → events-refused (first-events n events) .number ≡ 0
   unfolding events-refused first-events
@@ -93,27 +107,6 @@ module _ (table : Table) (events : Events) (n : ℕ) (earlier : n ≤ count even
         le-ltb most-events n (omega arith),
       ))
 
-  room-passes : (room : Room) → room-refused table events room .number ≡ 0 → room-refused table (first-events n events) room .number ≡ 0
-  unfolding room-refused first-events
-  room-passes room ok =
-      let rows = length (table .identifiers) in
-      let short-order = ltb (room .order) (count events) in
-      let short-working = ltb (room .working) (count events) in
-      let short-report = ltb (room .report) (report-words * rows) in
-      let last = or-is-false (short-order || short-working || short-report) (ltb (room .lags) rows) .0 (given-none _ _ _ ok) in
-      let third = or-is-false (short-order || short-working) short-report .0 (last .0) in
-      let second = or-is-false short-order short-working .0 (third .0) in
-      let order-room = ltb-false (room .order) (count events) (second .0) in
-      let working-room = ltb-false (room .working) (count events) (second .1) in
-      given-passes _ 3 0
-      (rw (
-        length-take-le n (events .classes) earlier,
-        le-ltb (room .order) n (omega arith),
-        le-ltb (room .working) n (omega arith),
-        third .1,
-        last .1,
-      ))
-
   pub shorter-passes : (room : Room) → refused table events room .number ≡ 0 → refused table (first-events n events) room .number ≡ 0
   unfolding refused
   shorter-passes room ok =
@@ -123,4 +116,5 @@ module _ (table : Table) (events : Events) (n : ℕ) (earlier : n ≤ count even
       let events-pass =
       below-passes (event-refused (tree-of table) (first-events n events)) (count (first-events n events))
       (λ i below. rw (first-refused events n (tree-of table) i (omega arith)) (each i (omega arith))) in
-      first-passes _ (all .0, (lengths-pass (all .1 .0), (room-passes room (all .1 .1 .0), (all .1 .1 .1 .0, (events-pass, tt)))))
+      let room-fits = room-passes room _ (count events) (count (first-events n events)) (omega arith) (all .1 .1 .0) in
+      first-passes _ (all .0, (lengths-pass (all .1 .0), (room-fits, (all .1 .1 .1 .0, (events-pass, tt)))))

@@ -86,7 +86,7 @@ record Cleared (a b : Rows) (r : ℕ) : Type 0 where
   virtual-same : virtual b r ≡ virtual a r
 
 module _ (tree : Tree) (sound : Sound tree) (a : Rows) (full : Full a) (k : ℕ) (inside-k : k < tree .rows) where
-  leaves-full : Full (leaves tree k a)
+  pub leaves-full : Full (leaves tree k a)
   unfolding leaves
   leaves-full =
       record {

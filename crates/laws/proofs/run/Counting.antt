@@ -18,7 +18,7 @@ use Rattle.laws.specs.Sound.{Sound, Sender, ArrivalFits}
 use Rattle.laws.specs.Moves.{SameHead}
 use Rattle.laws.specs.Kept.{HeadOf, Kept}
 use Rattle.laws.specs.History.{Accepted, arrivals-of, only-for}
-use Rattle.laws.specs.Line.{line-class}
+use Rattle.rules.specs.Box.{line-class}
 use Rattle.laws.proofs.path.Tests.{cond-self}
 use Rattle.laws.proofs.path.Heads.{has-true, has-false, some-has, none-has}
 use Rattle.laws.proofs.tree.Paths.{root-within, self-within}

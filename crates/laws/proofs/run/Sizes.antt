@@ -21,7 +21,7 @@ use Rattle.laws.specs.Moves.{Others, Still, Headed, Dropped, Pick, Arriv
 use Rattle.laws.specs.Kept.{Kept}
 use Rattle.laws.specs.History.{Accepted}
 use Rattle.laws.specs.Pace.{Below}
-use Rattle.laws.specs.Line.{line-class, left}
+use Rattle.rules.specs.Box.{line-class, left}
 use Rattle.laws.proofs.path.Tests.{cond-most, cond-least}
 use Rattle.laws.proofs.tree.Paths.{its-parent, parent-is-inner}
 use Rattle.laws.proofs.tree.Depths.{sender-or-inner}
@@ -260,18 +260,18 @@ module _ (tree : Tree) (events : Events) where
       (cond-least (within tree r (line-class box)) _ _ _ (omega arith) before))
 
   pub parent-since-below :
-      (n r : ℕ) → Accepted tree events n → 0 < r → r < tree .rows
+      (n r : ℕ) → Accepted tree events n → parent tree r < tree .rows → r < tree .rows
       → getD (after tree events n .parent-since) r 0 ≤ bytes-of (after tree events n) (parent tree r)
   unfolding after fresh arrival departure
-  parent-since-below zero r ok positive inside = omega (arith, zeros-at r)
-  parent-since-below (suc n) r ok positive inside =
+  parent-since-below zero r ok above inside = omega (arith, zeros-at r)
+  parent-since-below (suc n) r ok above inside =
       let box = after tree events n in
       let keeps = small-kept n (earlier n ok) in
-      let before = parent-since-below n r (earlier n ok) positive inside in
+      let before = parent-since-below n r (earlier n ok) above inside in
       turn tree events (suc n) ok n (omega arith) (λ (box : Box). getD (box .parent-since) r 0 ≤ bytes-of box (parent tree r))
       (λ is fits. rw (arrival-parent-since tree (ok .sound) few n box keeps (class-at tree events n) (length-word events n) (fits .sender) r inside)
       (mark-most (within tree r (class-at tree events n)) (held-by box r) (bytes-of box (parent tree r)) (getD (box .parent-since) r 0) before))
-      (λ is none busy. rw (departure-bytes tree (ok .sound) few n box keeps busy (parent tree r) (ok .sound .parent-row r positive inside))
+      (λ is none busy. rw (departure-bytes tree (ok .sound) few n box keeps busy (parent tree r) above)
       (cond-least (within tree (parent tree r) (line-class box)) _ _ _ (omega arith) before))
 
   -- so the two products of a lag are small

@@ -18,7 +18,7 @@ use Rattle.laws.specs.Sound.{Sound, Kid, Inner, Sender}
 use Rattle.laws.specs.Moves.{Still, ArrivalAt}
 use Rattle.laws.specs.Kept.{Kept, Ahead}
 use Rattle.laws.specs.History.{Accepted, largest-for, Keeps}
-use Rattle.laws.specs.Line.{line-class}
+use Rattle.rules.specs.Box.{line-class}
 use Rattle.laws.proofs.tree.Paths.{parent-is-inner, parent-within}
 use Rattle.laws.proofs.tree.Trees.{share-whole, share-rest, charge-exact}
 use Rattle.laws.proofs.level.Modes.{not-root}

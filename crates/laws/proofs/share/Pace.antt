@@ -18,7 +18,7 @@ use Rattle.laws.specs.Moves.{Settled, Still, Pick, ArrivalAt}
 use Rattle.laws.specs.Moves.{Arriving, joins, opens, Departing, renews, passes-on, empties}
 use Rattle.laws.specs.Kept.{Kept, Taken, none as nobody, one as somebody, Balanced, Ahead}
 use Rattle.laws.specs.Pace.{OwnPace, WholePace, Paced}
-use Rattle.laws.specs.Line.{line-class}
+use Rattle.rules.specs.Box.{line-class}
 use Rattle.laws.proofs.path.Tests.{cond-least}
 use Rattle.laws.proofs.tree.Paths.{its-parent, parent-is-inner, parent-within, one-child}
 use Rattle.laws.proofs.tree.Trees.{charge-exact, share-whole, share-rest}

@@ -10,8 +10,7 @@ use native.Mathlib.Nat.{div-add-mod, add-mul, add-sub-of-le, mul-left-comm, mul-
 use native.Mathlib.Decide.{ℕ-discrete}
 use native.Mathlib.Omega.{arith}
 use lib.Dec.{T, ltb, eqb}
-use lib.ListN.{length, getD, set, take, length-set, length-take, length-replicate}
-use lib.Seq.{getD-set-same, getD-set-other}
+use lib.ListN.{length, getD, take, length-take, length-replicate}
 use borrow.Author.Tests.{ltb-false, eqb-true, eqb-false, ne-eqb, not-false}
 use Rattle.input.specs.declared.Event.the-variants.{Arrival, Finish}
 use Rattle.input.specs.declared.Refusal.{Refusal}
@@ -22,8 +21,9 @@ use Rattle.input.specs.Classes.{Tree, parent, depth, share, row-of, sends, chil
 use Rattle.input.specs.Events.{Events, count}
 use Rattle.rules.specs.Box.{Box, has-head}
 use Rattle.input.specs.Refusals.{given, or-else, first, first-below, Room, rows-refused, class-refused, row-refused}
-use Rattle.input.specs.Refusals.{shares-refused, table-refused, meeting-refused}
+use Rattle.input.specs.Refusals.{shares-refused, table-refused, packet-refused, meeting-refused}
 use Rattle.rules.specs.Refused.{idle, event-refused, refused}
+use Rattle.input.proofs.Filled.{filled-at}
 use Rattle.input.proofs.ShareTable.{allowed-parts}
 use Rattle.laws.specs.Sound.{Sound, ArrivalFits}
 use Rattle.laws.specs.History.{Accepted}
@@ -110,30 +110,9 @@ place-most x (y ∷ ys) = go (eqb x y) (place-most x ys)
     go true most = omega arith
     go false most = omega arith
 
--- a list that is filled place by place
-fill : (ℕ → ℕ) → ℕ → List ℕ
-fill entry zero = zeros
-fill entry (suc r) = set (fill entry r) r (entry r)
-
 pub zeros-full : length zeros ≡ most-rows
 unfolding zeros
 zeros-full = length-replicate {A = ℕ} most-rows 0
-
-fill-length : (entry : ℕ → ℕ) (n : ℕ) → length (fill entry n) ≡ most-rows
-unfolding fill
-fill-length entry zero = zeros-full
-fill-length entry (suc r) = length-set (fill entry r) r (entry r) ∙ fill-length entry r
-
-fill-at : (entry : ℕ → ℕ) (n r : ℕ) → r < n → n ≤ most-rows → getD (fill entry n) r 0 ≡ entry r
-unfolding fill
-fill-at entry zero r below few = absurd (omega arith)
-fill-at entry (suc n) r below few = go (ℕ-discrete r n) (fill-at entry n r)
-  where
-    go : Dec (r ≡ n) → (r < n → n ≤ most-rows → getD (fill entry n) r 0 ≡ entry r) → getD (set (fill entry n) n (entry n)) r 0 ≡ entry r
-    go (yes e) earlier =
-        let long = fill-length entry n in
-        rw e (getD-set-same (fill entry n) n (entry n) 0 (omega arith))
-    go (no other) earlier = getD-set-other (fill entry n) n r (entry n) 0 other ∙ earlier (omega arith) (omega arith)
 
 -- ── a table as it is read ──
 
@@ -143,30 +122,23 @@ module _ (table : Table) where
   depth-read r = cond (eqb r 0) 0 (suc (depth (read table r) (parent-of table r)))
 
   -- each list of the tree, after the first n rows
-  pub read-rows : (n : ℕ) → read table n .rows ≡ n
+  read-rows : (n : ℕ) → read table n .rows ≡ n
   unfolding read with-row
   read-rows zero = refl
   read-rows (suc n) = refl
 
-  pub read-identifiers : (n : ℕ) → read table n .identifiers ≡ table .identifiers
+  read-identifiers : (n : ℕ) → read table n .identifiers ≡ table .identifiers
   unfolding read with-row
   read-identifiers zero = refl
   read-identifiers (suc n) = read-identifiers n
 
-  read-parents : (n : ℕ) → read table n .parents ≡ fill (parent-of table) n
-  unfolding read with-row fill
-  read-parents zero = refl
-  read-parents (suc n) = rw (read-parents n)
+  pub tree-rows : tree-of table .rows ≡ length (table .identifiers)
+  unfolding tree-of
+  tree-rows = read-rows (length (table .identifiers))
 
-  read-depths : (n : ℕ) → read table n .depths ≡ fill depth-read n
-  unfolding read with-row fill depth-read
-  read-depths zero = refl
-  read-depths (suc n) = ap (λ (xs : List ℕ). set xs n (depth-read n)) (read-depths n)
-
-  read-shares : (n : ℕ) → read table n .shares ≡ fill (λ r. getD (table .shares) r 0) n
-  unfolding read with-row fill
-  read-shares zero = refl
-  read-shares (suc n) = rw (read-shares n)
+  pub tree-names : tree-of table .identifiers ≡ table .identifiers
+  unfolding tree-of
+  tree-names = read-identifiers (length (table .identifiers))
 
   -- where a row's parent is found, it is read before the row
   parent-earlier : (r : ℕ) → parent-of table r ≢ r → parent-of table r < r
@@ -179,13 +151,16 @@ module _ (table : Table) where
 
   module _ (n : ℕ) (few : n ≤ most-rows) where
     pub parent-at : (r : ℕ) → r < n → parent (read table n) r ≡ parent-of table r
-    parent-at r below = rw (read-parents n) (fill-at (parent-of table) n r below few)
+    unfolding read with-row
+    parent-at r below = filled-at (λ n. read table n .parents) (parent-of table) (λ n. refl) 0 n r below (rw zeros-full few)
 
     pub share-at : (r : ℕ) → r < n → share (read table n) r ≡ getD (table .shares) r 0
-    share-at r below = rw (read-shares n) (fill-at (λ r. getD (table .shares) r 0) n r below few)
+    unfolding read with-row
+    share-at r below = filled-at (λ n. read table n .shares) (λ r. getD (table .shares) r 0) (λ n. refl) 0 n r below (rw zeros-full few)
 
     pub depth-at : (r : ℕ) → r < n → depth (read table n) r ≡ depth-read r
-    depth-at r below = rw (read-depths n) (fill-at depth-read n r below few)
+    unfolding read with-row depth-read
+    depth-at r below = filled-at (λ n. read table n .depths) depth-read (λ n. refl) 0 n r below (rw zeros-full few)
 
   -- a row is one deeper than its parent: the rows that are read later leave both depths as they were
   depth-below :
@@ -210,16 +185,16 @@ module _ (table : Table) where
       let third = or-is-false unequal (ltb rows least-rows) .0 (last .0) in
       (ltb-false rows least-rows (third .1), ltb-false most-rows rows (last .1))
 
-  class-fits :
-      (r : ℕ) → class-refused table r .number ≡ 0
-      → (parent-of table r ≢ r) × T (allowed (getD (table .shares) r 0)) × (depth (tree-of table) r ≤ most-depth)
-  unfolding class-refused
-  class-fits r ok =
-      let all = first-none _ ok in
-      let found = given-none (eqb (parent-of table r) r) _ _ (all .1 .1 .0) in
-      let share-ok = not-false (allowed (getD (table .shares) r 0)) (given-none _ _ _ (all .1 .1 .1 .0)) in
-      let shallow = given-none (ltb most-depth (depth (tree-of table) r)) _ _ (all .1 .1 .1 .1 .0) in
-      (eqb-false (parent-of table r) r found, subst T (sym share-ok) tt, ltb-false most-depth (depth (tree-of table) r) shallow)
+class-fits :
+    (r identifier other parent share depth : ℕ) → class-refused r identifier other parent share depth .number ≡ 0
+    → (parent ≢ r) × T (allowed share) × (depth ≤ most-depth)
+unfolding class-refused
+class-fits r identifier other parent share depth ok =
+    let all = first-none _ ok in
+    let found = given-none (eqb parent r) _ _ (all .1 .1 .0) in
+    let share-ok = not-false (allowed share) (given-none _ _ _ (all .1 .1 .1 .0)) in
+    let shallow = given-none (ltb most-depth depth) _ _ (all .1 .1 .1 .1 .0) in
+    (eqb-false parent r found, subst T (sym share-ok) tt, ltb-false most-depth depth shallow)
 
 -- a table that is not refused is read as a sound tree
 pub sound : (table : Table) → rows-refused table .number ≡ 0 → table-refused table .number ≡ 0 → Sound (tree-of table)
@@ -260,7 +235,7 @@ sound table rows-ok table-ok =
         (r : ℕ) → 0 < r → r < n
         → (parent-of table r ≢ r) × T (allowed (getD (table .shares) r 0)) × (depth (tree-of table) r ≤ most-depth)
     fits zero positive below = absurd (omega arith)
-    fits (suc r) positive below = class-fits table (suc r) (below-none (row-refused table) n (both .0) (suc r) below)
+    fits (suc r) positive below = class-fits (suc r) _ _ _ _ _ (below-none (row-refused table) n (both .0) (suc r) below)
 
     in-rows : (r : ℕ) → 0 < r → r < n → parent (tree-of table) r < tree-of table .rows
     in-rows r positive below =
@@ -280,15 +255,16 @@ sound table rows-ok table-ok =
 pub arrival-fits :
     (tree : Tree) → Sound tree → (i word class length : ℕ) (idles : Bool)
     → meeting-refused tree i word (Arrival class length) idles .number ≡ 0 → ArrivalFits tree class length
-unfolding meeting-refused row-of
+unfolding meeting-refused packet-refused row-of
 arrival-fits tree sound i word class bytes idles ok =
-    let all = first-none _ ok in
     let k = row-of tree class in
-    let found = eqb-false k (tree .rows) (given-none _ _ _ (all .0)) in
-    let is-sender = not-false (sends tree k) (given-none _ _ _ (all .1 .0)) in
+    let both = or-none (given (eqb k (tree .rows)) 11 i) (packet-refused i (sends tree k) bytes) ok in
+    let found = eqb-false k (tree .rows) (given-none _ _ _ (both .0)) in
+    let packet = first-none _ (both .1) in
+    let is-sender = not-false (sends tree k) (given-none _ _ _ (packet .0)) in
     let most = place-most class (tree .identifiers) in
     let named = sound .named in
-    let size = or-is-false (ltb bytes least-bytes) (ltb most-bytes bytes) .0 (given-none _ _ _ (all .1 .1 .0)) in
+    let size = or-is-false (ltb bytes least-bytes) (ltb most-bytes bytes) .0 (given-none _ _ _ (packet .1 .0)) in
     record {
       sender = sends-sender tree k (omega arith) is-sender;
       some-bytes = ltb-false bytes least-bytes (size .0);

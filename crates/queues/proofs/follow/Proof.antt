@@ -27,7 +27,7 @@ same-length : tie.Need-same-length
 same-length c = search needs
 
 returns-2 : tie.Need-returns-2
-returns-2 c = rw (c .wide .ensures) (sym (followed-some _ _ _ (c .before .if1 .left)))
+returns-2 c = rw (c .wide .ensures .0) (sym (followed-some _ _ _ (c .before .if1 .left)))
 
 pub follow-spec : {M : Type 1} → statement M
 follow-spec = tie.close (tie.spec returns wide-requires sub-working mul-working slice-write-working same-length returns-2)

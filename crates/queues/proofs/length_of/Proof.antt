@@ -24,7 +24,7 @@ shared-slice-read-result : tie.Need-shared-slice-read-result
 shared-slice-read-result c = search needs
 
 returns-2 : tie.Need-returns-2
-returns-2 c = rw (c .before .wide .ensures) (sym (length-some _ _ (c .before .before .if1 .left)))
+returns-2 c = rw (c .before .wide .ensures .0) (sym (length-some _ _ (c .before .before .if1 .left)))
 
 pub length-of-spec : {M : Type 1} → statement M
 length-of-spec = tie.close (tie.spec returns wide-requires sub-result mul-result shared-slice-read-result returns-2)

@@ -34,7 +34,7 @@ returns-2 : tie.Need-returns-2
 returns-2 c =
     let start = c .before .before .before .before in
     let one = sent-one (start .args .idle) (start .args .head) (c .before .if2 .taken) (c .before .before .if1 .left) in
-    (rw (one, c .wide .ensures) refl, rw one (omega arith))
+    (rw (one, c .wide .ensures .0) refl, rw one (omega arith))
 
 returns-3 : tie.Need-returns-3
 returns-3 c =

@@ -36,8 +36,14 @@ outgrown-requires-2 c κs = search needs
 returns-2 : tie.Need-returns-2
 returns-2 c = c .outgrown2 .ensures ∙ sym (over-nothing _ _ _ (not-false _ (c .before .before .if1 .left)) (c .before .if2 .taken))
 
+cast-lowest : tie.Need-cast-lowest
+cast-lowest c = search needs
+
 lowest-requires : tie.Need-lowest-requires
 lowest-requires c κs = search needs
+
+cast-packets : tie.Need-cast-packets
+cast-packets c = search needs
 
 mul-packets : tie.Need-mul-packets
 mul-packets c = search needs
@@ -101,7 +107,9 @@ step-spec =
     returns
     outgrown-requires-2
     returns-2
+    cast-lowest
     lowest-requires
+    cast-packets
     mul-packets
     product-fits-requires
     outgrown-requires-3

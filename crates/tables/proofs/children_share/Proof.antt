@@ -1,4 +1,4 @@
--- `tables::children_share` meets its contract: the sum so far is that of the rows passed, and has room for 256 shares.
+-- `tables::children_share` meets its contract: the sum so far is that of the rows passed, and has room for as many shares as there can be rows.
 -- Assumes nothing.
 use Prim.Native.Nat.{_+_, _*_, _-_, _≤_}
 use mathlib.Core.Path.{_≡_, refl, ap₂}

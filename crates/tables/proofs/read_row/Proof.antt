@@ -3,6 +3,7 @@
 use Prim.Native.Nat.{_≤_}
 use native.Mathlib.Omega.{arith}
 use borrow.Author.Needs.{needs}
+use Rattle.input.specs.Limits.{most-rows}
 use Rattle.input.specs.Classes.{Table, earlier, parent-of}
 use Rattle.input.specs.Lent.{table-of}
 use Rattle.tables.proofs.OneRow.{depth-small, root-row, class-row}
@@ -43,7 +44,7 @@ element-copy-out-depth c = search needs
 add-depth : tie.Need-add-depth
 add-depth c =
     let s = c .before .before .before .before .before .before .before in
-    let few : s .args .r ≤ 256 = omega arith in
+    let few : s .args .r ≤ most-rows = omega arith in
     let small = depth-small (table s) (s .args .r) (c .before .before .place-of .result) few in
     rw (s .pre .2) (omega arith)
 

@@ -5,7 +5,8 @@ use borrow.Author.Needs.{needs}
 use Rattle.input.specs.Classes.{Table, tree-of}
 use Rattle.input.specs.Refusals.{table-refused}
 use Rattle.input.specs.Lent.{table-of}
-use Rattle.tables.proofs.Answering.{answer-refuses, answer-accepts, parents-read, shares-read, table-refusal, tree-rows, accepted}
+use Rattle.laws.proofs.tree.Trees.{tree-rows}
+use Rattle.tables.proofs.Answering.{answer-refuses, answer-accepts, parents-read, shares-read, table-refusal, accepted}
 use Rattle.tables.proofs.read_sized.Statement.{statement}
 use Rattle.tables.proofs.read_sized.Tie as tie
 
@@ -54,7 +55,7 @@ returns-2 c =
     let t = table (start o) in
     let rows = all-rows o .read-rows in
     let senders = c .senders-of .ensures (tree-of t) (parents-read t (rows .result) (rows .ensures))
-    (tree-rows t (rows .result) (rows .ensures)) in
+    (tree-rows t) in
     rw (← found o, answer-accepts (o .or-else .result) (tree-of t) (c .before .before .if1 .left))
     (accepted t (rows .result) (rows .ensures) (o .or-else .result) (c .senders-of .result) senders)
 

@@ -31,6 +31,9 @@ loop-holds c = (omega arith, λ table e0 e1 e2. c .none .ensures)
 children-share-requires : tie.Need-children-share-requires Inv-loop μ-loop
 children-share-requires c κs = search needs
 
+cast-given : tie.Need-cast-given Inv-loop μ-loop
+cast-given c = search needs
+
 given-requires : tie.Need-given-requires Inv-loop μ-loop
 given-requires c κs = search needs
 
@@ -63,5 +66,5 @@ returns c table e0 e1 e2 =
 pub shares-refused-spec : {M : Type 1} → statement M
 shares-refused-spec =
     tie.close
-    (tie.spec Inv-loop μ-loop none-requires loop-holds children-share-requires given-requires or-else-requires add-p loop-less
+    (tie.spec Inv-loop μ-loop none-requires loop-holds children-share-requires cast-given given-requires or-else-requires add-p loop-less
     loop-again returns)

@@ -2,14 +2,15 @@
 -- Assumes nothing.
 use Prim.Native.Nat.{_-_, _≤_}
 use borrow.Author.Needs.{needs}
+use Rattle.input.specs.Limits.{most-rows}
 use Rattle.promise.proofs.lines.print.Statement.{statement}
 use Rattle.promise.proofs.lines.print.Tie as tie
 
 abbrev Inv-loop : tie.InvT-loop
-Inv-loop largest own identifiers parents depths shares senders out₀ sink₀ row₀ out sink row = row ≤ 256
+Inv-loop largest own identifiers parents depths shares senders out₀ sink₀ row₀ out sink row = row ≤ most-rows
 
 abbrev μ-loop : tie.MeasureT-loop
-μ-loop largest own identifiers parents depths shares senders out₀ sink₀ row₀ out sink row = 256 - row
+μ-loop largest own identifiers parents depths shares senders out₀ sink₀ row₀ out sink row = most-rows - row
 
 onto-requires : tie.Need-onto-requires Inv-loop μ-loop
 onto-requires c κs = search needs

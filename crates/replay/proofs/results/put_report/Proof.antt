@@ -1,15 +1,16 @@
--- `put_report` is safe and ends: a row has five numbers.
+-- `put_report` is safe and ends: the words of a row.
 -- Assumes nothing.
 use Prim.Native.Nat.{_≤_, _-_}
 use borrow.Author.Needs.{needs}
+use Rattle.input.specs.Limits.{report-words}
 use Rattle.replay.proofs.results.put_report.Statement.{statement}
 use Rattle.replay.proofs.results.put_report.Tie as tie
 
 abbrev Inv-loop : tie.InvT-loop
-Inv-loop out₀ report row sink₀ j₀ out sink j = j ≤ 5
+Inv-loop out₀ report row sink₀ j₀ out sink j = j ≤ report-words
 
 abbrev μ-loop : tie.MeasureT-loop
-μ-loop out₀ report row sink₀ j₀ out sink j = 5 - j
+μ-loop out₀ report row sink₀ j₀ out sink j = report-words - j
 
 loop-holds : tie.Need-loop-holds Inv-loop μ-loop
 loop-holds c = search needs

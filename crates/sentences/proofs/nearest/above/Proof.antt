@@ -4,16 +4,17 @@ use Prim.Native.Nat.{_-_, _≤_}
 use mathlib.Core.Path.{_≡_, sym, ap, _∙_}
 use native.Mathlib.Omega.{arith}
 use borrow.Author.Needs.{needs}
+use Rattle.input.specs.Limits.{whole}
 use Rattle.sentences.specs.Nearest.{least-above}
 use Rattle.sentences.proofs.Around.{capped-above, passed-above, found-above, none-above}
 use Rattle.sentences.proofs.nearest.above.Statement.{statement}
 use Rattle.sentences.proofs.nearest.above.Tie as tie
 
 abbrev Inv-loop : tie.InvT-loop
-Inv-loop share s₀ s = (s ≤ 840) × (least-above s ≡ least-above share)
+Inv-loop share s₀ s = (s ≤ whole) × (least-above s ≡ least-above share)
 
 abbrev μ-loop : tie.MeasureT-loop
-μ-loop share s₀ s = 840 - s
+μ-loop share s₀ s = whole - s
 
 least-requires : tie.Need-least-requires Inv-loop μ-loop
 least-requires c κs = search needs

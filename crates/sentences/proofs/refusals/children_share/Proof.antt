@@ -1,24 +1,28 @@
--- `children_share` meets its contract: the sum so far is that of the rows passed, and has room for 257 shares.
+-- `children_share` meets its contract: the sum so far is that of the rows passed, and has room for the shares of all rows that are held.
 -- Assumes nothing.
-use Prim.Native.Nat.{_≤_, _*_, _-_}
+use Prim.Native.Nat.{suc, _≤_, _*_, _-_}
 use mathlib.Core.Path.{_≡_, refl}
 use native.Mathlib.Numerals.{add-one}
 use native.Mathlib.Omega.{arith}
 use borrow.Author.Needs.{needs}
+use Rattle.input.specs.Limits.{most-rows}
 use Rattle.sentences.specs.Named.{shares-under}
 use Rattle.sentences.proofs.refusals.children_share.Statement.{statement}
 use Rattle.sentences.proofs.refusals.children_share.Tie as tie
 
 abbrev Inv-loop : tie.InvT-loop
 Inv-loop identifier parents shares sum₀ row₀ sum row =
-    (row ≤ 257) × (sum ≤ row * 4294967295) × (sum ≡ shares-under identifier parents shares row)
+    (row ≤ suc most-rows) × (sum ≤ row * 4294967295) × (sum ≡ shares-under identifier parents shares row)
 
 abbrev μ-loop : tie.MeasureT-loop
-μ-loop identifier parents shares sum₀ row₀ sum row = 257 - row
+μ-loop identifier parents shares sum₀ row₀ sum row = suc most-rows - row
 
 loop-holds : tie.Need-loop-holds Inv-loop μ-loop
 unfolding shares-under
 loop-holds c = (omega arith, omega arith, refl)
+
+cast-loop : tie.Need-cast-loop Inv-loop μ-loop
+cast-loop c = search needs
 
 word-requires : tie.Need-word-requires Inv-loop μ-loop
 word-requires c κs = search needs
@@ -49,7 +53,7 @@ loop-again c =
 
 returns : tie.Need-returns Inv-loop μ-loop
 returns c =
-    let end : c .before .loop .row ≡ 257 = omega arith in
+    let end : c .before .loop .row ≡ suc most-rows = omega arith in
     rw end at (c .before .loop .inv .2)
 
 pub children-share-spec : {M : Type 1} → statement M
@@ -59,6 +63,7 @@ children-share-spec =
     Inv-loop
     μ-loop
     loop-holds
+    cast-loop
     word-requires
     word-requires-2
     share-under-requires

@@ -1,0 +1,2 @@
+-- What the line's packet leaves behind when it goes.
+pub mod Leaving

@@ -1,0 +1,2 @@
+-- What the contracts of the steps speak of beside the rules.
+pub mod Ready
