@@ -116,7 +116,7 @@ loop-holds c =
     (omega arith, refl, refl, fresh-now (tree s) (events s) _ _ (c .before .before .clear .ensures), fresh-order (tree s) (events s) _, refl)
 
 element-copy-out-step : tie.Need-element-copy-out-step Inv-loop μ-loop
-element-copy-out-step c = few-events (c .before .before .before .before .before .before .before .before .before .before .before .before .before)
+element-copy-out-step c = omega (arith, few-events (c .before .before .before .before .before .before .before .before .before .before .before .before .before))
 
 step-requires : tie.Need-step-requires Inv-loop μ-loop
 step-requires c κs =
