@@ -22,7 +22,7 @@ use Rattle.rules.specs.Refused.{idle, event-refused}
 use Rattle.laws.specs.Sound.{Sound, Sender, ArrivalFits}
 use Rattle.laws.specs.Moves.{SameHead}
 use Rattle.laws.specs.Kept.{Kept, HeadOf}
-use Rattle.laws.proofs.path.Heads.{has-true}
+use Rattle.laws.proofs.level.Heads.{has-true}
 use Rattle.laws.proofs.tree.Trees.{arrival-fits, finish-fits}
 use Rattle.laws.proofs.event.Turns.{Arrives, met, fewer}
 use Rattle.laws.proofs.path.DeparturePath.{leaves-idle}

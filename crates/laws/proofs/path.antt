@@ -1,6 +1,5 @@
 -- Choosing at a row and up a path, and what an event does to the rows of one path and to no other.
 pub mod Tests
-pub mod Heads
 pub mod Least
 pub mod Writing
 pub mod Choosing

@@ -1,4 +1,4 @@
--- What the routines that are for all state of their results, which is all of them.
+-- What `read_table` and `row_of` state of their results, which is all of it.
 use Prim.Native.Nat.{ℕ}
 use mathlib.Core.Path.{_≡_}
 use mathlib.Core.List.{List}

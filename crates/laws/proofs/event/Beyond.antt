@@ -17,7 +17,7 @@ use Rattle.rules.specs.Steps.{on-path, along, new-head, up, arrives, leaves, re
 use Rattle.rules.specs.Promise.{within}
 use Rattle.laws.specs.Sound.{Sound}
 use Rattle.laws.specs.Moves.{Full, SameRow}
-use Rattle.laws.proofs.path.Heads.{same-row, then-same}
+use Rattle.laws.proofs.level.Heads.{same-row, then-same}
 use Rattle.laws.proofs.tree.Paths.{climb, nearer, only-root, below-root}
 use Rattle.laws.proofs.path.Choosing.{new-head-full, new-head-elsewhere}
 use Rattle.laws.proofs.path.Rising.{rises}

@@ -23,7 +23,7 @@ use Rattle.laws.specs.Kept.{Kept, InLine, HeadOf, held-below, Covered}
 use Rattle.laws.specs.History.{Accepted, largest-for}
 use Rattle.rules.specs.Box.{line-class, left}
 use Rattle.laws.proofs.path.Tests.{cond-least}
-use Rattle.laws.proofs.path.Heads.{has-true}
+use Rattle.laws.proofs.level.Heads.{has-true}
 use Rattle.laws.proofs.tree.Paths.{kid-child, child-kid, self-within, sender-alone, along-length, along-at}
 use Rattle.laws.proofs.tree.Depths.{sender-or-inner, from-children, upwards}
 use Rattle.laws.proofs.tree.Trees.{arrival-fits, finish-fits}

@@ -15,7 +15,7 @@ use Rattle.rules.specs.Refused.{idle, event-refused}
 use Rattle.rules.specs.Steps.{arrival, departure, step, after}
 use Rattle.laws.specs.Sound.{ArrivalFits}
 use Rattle.laws.specs.History.{Accepted}
-use Rattle.laws.proofs.path.Heads.{has-true}
+use Rattle.laws.proofs.level.Heads.{has-true}
 use Rattle.laws.proofs.tree.Trees.{arrival-fits, finish-fits}
 
 -- the row of the class for which the packet named i arrives

@@ -17,7 +17,7 @@ use Rattle.laws.specs.Moves.{SameHead, SameKid, SameTop, Settled, Still,
 use Rattle.laws.specs.Moves.{Arriving, joins, opens, Departing, renews, passes-on, empties, ArrivalAt, DepartureAt}
 use Rattle.laws.specs.Level.{Mode, idle, waits, taken, Due, Behind}
 use Rattle.laws.specs.Kept.{weight, spare, mode, Taken, none, one, Ahead, Balanced}
-use Rattle.laws.proofs.path.Heads.{same-row}
+use Rattle.laws.proofs.level.Heads.{same-row}
 use Rattle.laws.proofs.tree.Paths.{one-child}
 use Rattle.laws.proofs.tree.Trees.{share-whole, share-rest, charge-exact, charge-covers}
 use Rattle.laws.proofs.level.Balance.{Apart, zero-behind, same-behind, wake-behind, renew-behind, drop-behind, pick-behind, due-behind}

@@ -14,7 +14,7 @@ use Rattle.laws.specs.Sound.{Sound, Kid, Inner}
 use Rattle.laws.specs.Moves.{SameKid}
 use Rattle.laws.specs.Level.{Mode, idle, waits, taken, sum}
 use Rattle.laws.specs.Kept.{weight, spare, mode}
-use Rattle.laws.proofs.path.Heads.{has-true, some-has, none-has}
+use Rattle.laws.proofs.level.Heads.{has-true, some-has, none-has}
 use Rattle.laws.proofs.tree.Paths.{kid-child, child-kid}
 
 -- ── shares ──

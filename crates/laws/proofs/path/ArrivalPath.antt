@@ -13,7 +13,7 @@ use Rattle.rules.specs.Promise.{within}
 use Rattle.rules.specs.declared.Why.the-variants.{Arrived}
 use Rattle.laws.specs.Sound.{Sound, Kid, Inner, Sender}
 use Rattle.laws.specs.Moves.{Full, SameHead, Settled, SameKid, SameRow, Still, Headed, Arriving, joins, opens, ArrivalAt}
-use Rattle.laws.proofs.path.Heads.{has-true, has-false, same-row, then-same, still-rows}
+use Rattle.laws.proofs.level.Heads.{has-true, has-false, same-row, then-same, still-rows}
 use Rattle.laws.proofs.tree.Paths.{parent-is-inner, root-inner, parent-within, child-within}
 use Rattle.laws.proofs.tree.Depths.{kid-deeper, path-higher, deeper-apart, upwards, off-apart, kid-off, sibling-off, sender-off, inner-below}
 use Rattle.laws.proofs.path.Choosing.{new-head-full, new-head-elsewhere, new-head-here}

@@ -20,7 +20,7 @@ use Rattle.rules.specs.declared.Why.the-variants.{Finished, Arrived}
 use Rattle.laws.specs.Sound.{Sound, Kid, Inner}
 use Rattle.laws.specs.Moves.{Full, SameHead, SameKid, SameRow, Pick}
 use Rattle.laws.proofs.path.Tests.{both-ways}
-use Rattle.laws.proofs.path.Heads.{has-true, some-has}
+use Rattle.laws.proofs.level.Heads.{has-true, some-has}
 use Rattle.laws.proofs.tree.Paths.{kid-child, child-kid, its-parent, kid-apart}
 use Rattle.laws.proofs.path.Least.{Best, Found, found}
 use Rattle.laws.proofs.path.Writing.{Wrote, written, wrote-full, wrote-elsewhere, wrote-both}

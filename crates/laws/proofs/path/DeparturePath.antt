@@ -17,7 +17,7 @@ use Rattle.rules.specs.declared.Why.the-variants.{Finished}
 use Rattle.laws.specs.Sound.{Sound, Kid, Inner, Sender}
 use Rattle.laws.specs.Moves.{Full, SameHead, Settled, SameKid, SameRow, Still, Headed, Dropped, Pick, Departing, passes-on, empties, DepartureAt}
 use Rattle.laws.specs.Kept.{HeadOf}
-use Rattle.laws.proofs.path.Heads.{same-row, then-same, still-rows}
+use Rattle.laws.proofs.level.Heads.{same-row, then-same, still-rows}
 use Rattle.laws.proofs.tree.Paths.{its-parent, climb, parent-is-inner, root-within, self-within, parent-within, child-within, one-child, along-length, along-at}
 use Rattle.laws.proofs.tree.Depths.{kid-deeper, path-higher, deeper-apart, upwards, off-apart, kid-off, sibling-off, sender-off, inner-below}
 use Rattle.laws.proofs.path.Choosing.{new-head-full, new-head-elsewhere, new-head-here}

@@ -14,7 +14,7 @@ use Rattle.rules.specs.declared.Why.{Why}
 use Rattle.rules.specs.declared.Why.the-variants.{Finished, Arrived}
 use Rattle.laws.specs.Sound.{Sound, Kid, Inner}
 use Rattle.laws.specs.Moves.{Full, SameRow, Headed, Dropped, Pick}
-use Rattle.laws.proofs.path.Heads.{has-true, has-false, same-row, then-same}
+use Rattle.laws.proofs.level.Heads.{has-true, has-false, same-row, then-same}
 use Rattle.laws.proofs.tree.Paths.{kid-apart, parent-is-inner, root-within, nearer, self-within, parent-within, child-within, not-below}
 use Rattle.laws.proofs.tree.Depths.{kid-deeper, lower-kid, off-at-parent, path-depth, path-higher, deeper-apart}
 use Rattle.laws.proofs.path.Choosing.{Nobody, Somebody, new-head-here, chooses-full, chooses-elsewhere, chooses-what}

@@ -20,7 +20,7 @@ use Rattle.laws.specs.Kept.{HeadOf, Kept}
 use Rattle.laws.specs.History.{Accepted, arrivals-of, only-for}
 use Rattle.rules.specs.Box.{line-class}
 use Rattle.laws.proofs.path.Tests.{cond-self}
-use Rattle.laws.proofs.path.Heads.{has-true, has-false, some-has, none-has}
+use Rattle.laws.proofs.level.Heads.{has-true, has-false, some-has, none-has}
 use Rattle.laws.proofs.tree.Paths.{root-within, self-within}
 use Rattle.laws.proofs.tree.Depths.{sender-off}
 use Rattle.laws.proofs.path.ArrivalPath.{arrives-line-busy}

@@ -18,7 +18,7 @@ use Rattle.rules.specs.Promise.{finish-count, arrived}
 use Rattle.laws.specs.Sound.{Sound}
 use Rattle.laws.specs.Kept.{Kept}
 use Rattle.laws.specs.History.{Accepted}
-use Rattle.laws.proofs.path.Heads.{some-has, none-has}
+use Rattle.laws.proofs.level.Heads.{some-has, none-has}
 use Rattle.laws.proofs.tree.Paths.{climb, its-parent}
 use Rattle.laws.proofs.event.Largest.{accepted-wider}
 use Rattle.laws.proofs.event.Keeping.{holds-head, holds-none, kept}
