@@ -30,7 +30,8 @@ module _ (tree : Tree) (rows : Rows) where
 
   pub pick-part : (p : ℕ)
       → pick tree rows p
-      ≡ least (eligible-of (tree .parents) (rows .starts) (rows .heads) p (raised tree rows p)) (λ (i : ℕ). getD (rows .finishes) i 0) (tree .rows)
+      ≡ least (eligible-of (tree .parents) (rows .starts) (rows .heads) p (raised tree rows p)) (λ (i : ℕ). getD (rows .finishes) i 0)
+      (λ (i : ℕ). getD (rows .heads) i 0) (tree .rows)
   unfolding pick eligible waits child has-head
   pick-part p = refl
 

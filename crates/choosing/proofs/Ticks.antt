@@ -12,7 +12,7 @@ use Rattle.rules.specs.declared.Why.the-variants.{Finished, Arrived}
 use Rattle.input.specs.Limits.{ticks, most-bytes, scale}
 use Rattle.input.specs.Shares.{cost, charge}
 use Rattle.input.specs.Classes.{Tree, parent}
-use Rattle.rules.specs.Box.{Rows, start, virtual}
+use Rattle.rules.specs.Box.{Rows, start, virtual, head}
 use Rattle.rules.specs.Steps.{with-virtual, next-start, waits, least, raised}
 use Rattle.input.specs.Lent.{tree-with}
 use Rattle.choosing.specs.Arrays.{raised-of, next-start-of}
@@ -44,7 +44,7 @@ module _ (n : ℕ) (tree : Tree) (rows : Rows) (leeway : Leeway n rows) where
   raised-leeway p = go (eqb first 0)
     where
       first : ℕ
-      first = least (waits tree rows p) (start rows) (tree .rows)
+      first = least (waits tree rows p) (start rows) (head rows) (tree .rows)
 
       go : (none : Bool) → cond none (virtual rows p) (max (virtual rows p) (start rows first)) + n < 2 ^ 64
       go true = leeway .virtuals p

@@ -63,23 +63,41 @@ fn eligible(
     }
 }
 
-// Of two rows, the second if it passes and its key is less; the first may be 0, which is no row.
-fn lesser(passes: bool, keys: &RowLongs, best: usize, r: usize) -> usize
+// Whether row a goes before row b: its key is less, or as large and its head packet arrived earlier.
+fn sooner(keys: &RowLongs, heads: &RowWords, a: usize, b: usize) -> bool
+    requires { ⌜ a < most-rows ⌝ }
+    requires { ⌜ b < most-rows ⌝ }
+    ensures { λ s. ⌜ s ≡ steps.sooner (λ (i : ℕ). getD (now (keys .entry)) i 0) (λ (i : ℕ). getD (now (heads .entry)) i 0) a b ⌝ }
+{
+    if keys[a] == keys[b] {
+        return heads[a] < heads[b];
+    }
+    keys[a] < keys[b]
+}
+
+// Of two rows, the second if it passes and goes before the first; the first may be 0, which is no row.
+fn lesser(passes: bool, keys: &RowLongs, heads: &RowWords, best: usize, r: usize) -> usize
     requires { ⌜ best < most-rows ⌝ }
     requires { ⌜ r < most-rows ⌝ }
-    ensures { λ k. ⌜ k ≡ steps.lesser (λ (i : ℕ). passes) (λ (i : ℕ). getD (now (keys .entry)) i 0) best r ⌝ }
+    ensures { λ k. ⌜ k ≡ steps.lesser (λ (i : ℕ). passes) (λ (i : ℕ). getD (now (keys .entry)) i 0)
+        (λ (i : ℕ). getD (now (heads .entry)) i 0) best r ⌝ }
 {
     if passes {
         if best == 0 {
             return r;
         }
-        if keys[r] < keys[best] { r } else { best }
+        if sooner(keys, heads, r, best) {
+            r
+        } else {
+            best
+        }
     } else {
         best
     }
 }
 
-// Of the children of p that are eligible at v the one with the least key, of equal ones the lowest row; 0 where none is.
+// Of the children of p that are eligible at v the one with the least key, of equal keys that whose head packet arrived first; 0 where none
+// is.
 fn least(
     rows: usize,
     parents: &RowWords,
@@ -91,12 +109,18 @@ fn least(
 ) -> usize
     requires { ⌜ rows ≤ most-rows ⌝ }
     ensures { λ k. ⌜ k ≡ steps.least (eligible-of (now (parents .entry)) (now (starts .entry)) (now (heads .entry)) p v)
-        (λ (i : ℕ). getD (now (keys .entry)) i 0) rows ⌝ }
+        (λ (i : ℕ). getD (now (keys .entry)) i 0) (λ (i : ℕ). getD (now (heads .entry)) i 0) rows ⌝ }
 {
     let mut best = 0;
     let mut i = 0;
     while i < rows {
-        best = lesser(eligible(parents, starts, heads, p, v, i), keys, best, i);
+        best = lesser(
+            eligible(parents, starts, heads, p, v, i),
+            keys,
+            heads,
+            best,
+            i,
+        );
         i += 1;
     }
     best

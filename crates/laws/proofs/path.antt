@@ -3,6 +3,7 @@ pub mod Tests
 pub mod Least
 pub mod Writing
 pub mod Choosing
+pub mod Looking
 pub mod Rising
 pub mod Settling
 pub mod ArrivalPath

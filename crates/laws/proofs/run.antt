@@ -1,4 +1,5 @@
--- A run: its order, what is counted in it, when the line is idle, how large its numbers are, and which rows it never writes.
+-- A run: its order, what is counted in it, when the line is idle, how large its numbers are, which rows it never writes, and that its choices
+-- are clear.
 pub mod Orders
 pub mod Counting
 pub mod History
@@ -7,3 +8,4 @@ pub mod Sizes
 pub mod Unwritten
 pub mod Quiet
 pub mod Sent
+pub mod Waited

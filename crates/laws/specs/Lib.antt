@@ -1,8 +1,9 @@
--- What the theorems speak of: sound trees, what an event does at one level, a level's balance, a well-kept box, a list cut short.
+-- What the theorems speak of: sound trees, what an event does at one level, a level's balance, a well-kept box, the choices of an event, a list cut short.
 pub mod Sound
 pub mod Moves
 pub mod Level
 pub mod Kept
+pub mod Choices
 pub mod History
 pub mod Pace
 pub mod Shorter

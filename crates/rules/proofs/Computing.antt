@@ -14,7 +14,7 @@ use Rattle.rules.specs.Worked
 unfoldable pub computing : Lent → Outcome
 unfolding allowed cost charge place-of earlier parent-of zeros with-row read tree-of row-of child has-child sends children-share
     decode event fresh has-head
-    Steps.with-head Steps.with-virtual Steps.charged Steps.next-start Steps.new-head Steps.lesser Steps.least Steps.waits Steps.eligible
+    Steps.with-head Steps.with-virtual Steps.charged Steps.next-start Steps.new-head Steps.sooner Steps.lesser Steps.least Steps.waits Steps.eligible
     Steps.raised Steps.pick Steps.takes Steps.chooses Steps.up Steps.on-path Steps.along Steps.arrives Steps.leaves Steps.renews
     Steps.goes-on Steps.sent Steps.arrival Steps.departure Steps.step Steps.after
     Refusals.nothing Refusals.given Refusals.or-else Refusals.first Refusals.first-below Refusals.rows-refused Refusals.events-refused

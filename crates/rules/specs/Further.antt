@@ -52,6 +52,45 @@ inner =
           ∷ [];
     }
 
+-- equal finishes of classes 20 and 30, where class 20 has a further packet behind its head: its head, packet 1, is older than packet 2, and
+-- goes first, whatever stands behind it
+unfoldable pub head-counts : Run
+head-counts =
+    record {
+      lent =
+          lend (row 1 0 0 ∷ row 10 1 280 ∷ row 20 1 280 ∷ row 30 1 280 ∷ [])
+          (packet 10 100 ∷ packet 20 100 ∷ packet 30 100 ∷ packet 20 100 ∷ finish ∷ finish ∷ finish ∷ finish ∷ []);
+      facts =
+          Answers 0 0 0 4
+          ∷ Order (0 ∷ 1 ∷ 2 ∷ 3 ∷ replicate 5 7)
+          ∷ RowReport 2 (200 ∷ 336000 ∷ 588000 ∷ 0 ∷ 0 ∷ [])
+          ∷ RowReport 3 (100 ∷ 84000 ∷ 336000 ∷ 0 ∷ 0 ∷ [])
+          ∷ [];
+    }
+
+-- equal finishes at inner rows, by the places of packets two levels below, as often against the order of the rows as with it. First class 2
+-- has packet 3 and class 3 packet 4 for its head, with finish 504000: 3 goes first, though class 3 holds packet 2, which is older. In class
+-- 4 classes 6 and 7 then have packets 8 and 6 with finish 504000: 6 is taken. And with that class 2 has finish 672000, as class 3 has with packet 2:
+-- 2 goes first
+unfoldable pub waited : Run
+waited =
+    record {
+      lent =
+          lend
+          (row 1 0 0 ∷ row 2 1 420 ∷ row 3 1 420 ∷ row 4 2 840 ∷ row 5 3 840 ∷ row 6 4 420 ∷ row 7 4 420 ∷ row 8 5 420 ∷ row 9 5 420 ∷ [])
+          (packet 7 200 ∷ packet 9 100 ∷ packet 9 100 ∷ packet 6 100 ∷ packet 8 100 ∷ finish
+          ∷ packet 7 100 ∷ packet 9 200 ∷ packet 6 100 ∷ replicate 7 finish);
+      facts =
+          Answers 0 0 0 8
+          ∷ Order (0 ∷ 1 ∷ 3 ∷ 4 ∷ 2 ∷ 6 ∷ 8 ∷ 7 ∷ replicate 9 7)
+          ∷ RowReport 0 (1000 ∷ 0 ∷ 0 ∷ 924000 ∷ 0 ∷ [])
+          ∷ RowReport 1 (500 ∷ 672000 ∷ 840000 ∷ 420000 ∷ 0 ∷ [])
+          ∷ RowReport 2 (500 ∷ 672000 ∷ 1008000 ∷ 420000 ∷ 0 ∷ [])
+          ∷ RowReport 3 (500 ∷ 336000 ∷ 420000 ∷ 504000 ∷ 0 ∷ [])
+          ∷ RowReport 4 (500 ∷ 252000 ∷ 420000 ∷ 504000 ∷ 0 ∷ [])
+          ∷ [];
+    }
+
 -- a refusal after events that are none: every lent word stays
 unfoldable pub untouched : Run
 untouched =
@@ -67,4 +106,4 @@ untouched =
     }
 
 unfoldable pub runs : List Run
-runs = not-eligible ∷ behind ∷ inner ∷ untouched ∷ []
+runs = not-eligible ∷ behind ∷ inner ∷ head-counts ∷ waited ∷ untouched ∷ []

@@ -64,14 +64,18 @@ new-head tree why r packet length class rows =
 
 -- ── choosing ──
 
--- of two rows, the second if it passes the test and its key is less; the first may be 0, which is no row
-unfoldable pub lesser : (ℕ → Bool) → (ℕ → ℕ) → ℕ → ℕ → ℕ
-lesser test key best r = cond (test r && (eqb best 0 || ltb (key r) (key best))) r best
+-- row a goes before row b: its key is less, or as large and its place earlier
+unfoldable pub sooner : (ℕ → ℕ) → (ℕ → ℕ) → ℕ → ℕ → Bool
+sooner key place a b = ltb (key a) (key b) || (eqb (key a) (key b) && ltb (place a) (place b))
 
--- among the rows below n that pass a test, the one with the least key, of equal ones the lowest; 0 where none passes
-unfoldable pub least : (ℕ → Bool) → (ℕ → ℕ) → ℕ → ℕ
-least test key zero = 0
-least test key (suc r) = lesser test key (least test key r) r
+-- of two rows, the second if it passes the test and goes before the first; the first may be 0, which is no row
+unfoldable pub lesser : (ℕ → Bool) → (ℕ → ℕ) → (ℕ → ℕ) → ℕ → ℕ → ℕ
+lesser test key place best r = cond (test r && (eqb best 0 || sooner key place r best)) r best
+
+-- among the rows below n that pass a test, the one with the least key, of equal keys that with the earliest place; 0 where none passes
+unfoldable pub least : (ℕ → Bool) → (ℕ → ℕ) → (ℕ → ℕ) → ℕ → ℕ
+least test key place zero = 0
+least test key place (suc r) = lesser test key place (least test key place r) r
 
 -- r is a child of p with a head
 unfoldable pub waits : Tree → Rows → ℕ → ℕ → Bool
@@ -84,12 +88,13 @@ eligible tree rows p v r = waits tree rows p r && leb (start rows r) v
 -- p's virtual time, raised to the least start among its waiting children if it is lower; as it was where none waits
 unfoldable pub raised : Tree → Rows → ℕ → ℕ
 raised tree rows p =
-    let first = least (waits tree rows p) (start rows) (tree .rows) in
+    let first = least (waits tree rows p) (start rows) (head rows) (tree .rows) in
     cond (eqb first 0) (virtual rows p) (max (virtual rows p) (start rows first))
 
--- the child that p takes: of the eligible ones that with the least finish; 0 where no child has a head
+-- the child that p takes: of the eligible ones that with the least finish, of equal finishes that whose head packet arrived first; a head is
+-- its packet's place + 1, so heads are in the order of their places. 0 where no child has a head
 unfoldable pub pick : Tree → Rows → ℕ → ℕ
-pick tree rows p = least (eligible tree rows p (raised tree rows p)) (finish rows) (tree .rows)
+pick tree rows p = least (eligible tree rows p (raised tree rows p)) (finish rows) (head rows) (tree .rows)
 
 -- p takes its child k: k's head is p's too, and p's virtual time passes over it. The root is charged nothing: its head is on the line
 unfoldable pub takes : Tree → Why → ℕ → ℕ → Rows → Rows

@@ -129,14 +129,14 @@ p2 =
           ∷ [];
     }
 
--- P3: equal finishes
+-- P3: of equal finishes the packet that arrived first goes first
 unfoldable pub p3 : Run
 p3 =
     record {
       lent =
           lend (row 1 0 0 ∷ row 10 1 280 ∷ row 20 1 280 ∷ row 30 1 280 ∷ [])
           (packet 10 100 ∷ packet 30 100 ∷ packet 20 100 ∷ finish ∷ finish ∷ finish ∷ []);
-      facts = Answers 0 0 0 3 ∷ Order (0 ∷ 2 ∷ 1 ∷ 7 ∷ 7 ∷ 7 ∷ 7 ∷ []) ∷ Word 0 virtual-word 252000 ∷ [];
+      facts = Answers 0 0 0 3 ∷ Order (0 ∷ 1 ∷ 2 ∷ 7 ∷ 7 ∷ 7 ∷ 7 ∷ []) ∷ Word 0 virtual-word 252000 ∷ [];
     }
 
 -- P4: two levels

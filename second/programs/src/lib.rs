@@ -4,6 +4,7 @@
 mod answer;
 mod counts;
 mod events;
+mod inside;
 mod print;
 pub mod program;
 pub mod promise;
@@ -19,8 +20,9 @@ mod tree;
 
 pub use answer::Answer;
 pub use events::MOST_BYTES;
+pub use inside::{Choices, Inside};
 pub use report::REPORT_WIDTH;
-pub use run::{run, MOST_EVENTS, MOST_ROWS};
+pub use run::{inside, run, MOST_EVENTS, MOST_ROWS};
 pub use sentences::sentence;
 pub use shares::{is_allowed, WHOLE};
 pub use slices::{EventSlices, Lent, Room, TableSlices};

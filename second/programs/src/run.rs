@@ -3,8 +3,9 @@
 use crate::answer::{number_of, Answer};
 use crate::counts::Counts;
 use crate::events::{decode, Event};
+use crate::inside::{Choices, Inside};
 use crate::report::{self, REPORT_WIDTH};
-use crate::slices::{EventSlices, Lent, TableSlices};
+use crate::slices::{EventSlices, Lent, Room, TableSlices};
 use crate::table::Table;
 use crate::tree::{Packet, Tree};
 
@@ -24,12 +25,22 @@ fn replay(slices: &TableSlices, events: &EventSlices, lent: &mut Lent) -> Result
     let table = Table::read(slices)?;
     let mut tree = Tree::new(&table);
     let mut counts = Counts::new(&table);
-    for (place, (class, length)) in events.classes.iter().zip(events.lengths).enumerate() {
-        let event = decode(&table, *class, *length).map_err(|n| Answer::refused(n, place))?;
-        apply(event, place, &mut tree, &mut counts)?;
-    }
+    apply_all(events, &table, &mut tree, &mut counts)?;
     report::write(&tree, &counts, events.classes.len(), lent);
     Ok(Answer::done(tree.order.len()))
+}
+
+/// The same run with its choices counted, and no results; or its refusal.
+pub fn inside(slices: TableSlices, events: EventSlices) -> Result<Inside, Answer> {
+    let mut room = Room::new(slices.identifiers.len(), events.classes.len());
+    check_lengths(&slices, &events, &room.lend())?;
+    let table = Table::read(&slices)?;
+    let mut choices = Choices::default();
+    let mut tree = Tree::counting(&table, &mut choices);
+    apply_all(&events, &table, &mut tree, &mut Counts::new(&table))?;
+    let place = |packet: Packet| packet.place;
+    let heads = tree.rows.iter().map(|row| row.head.map(place)).collect();
+    Ok(Inside { choices, heads })
 }
 
 /// Refusals 1, 2 and 3.
@@ -49,6 +60,20 @@ fn check_lengths(table: &TableSlices, events: &EventSlices, lent: &Lent) -> Resu
     let rows_short = lent.report.len() < REPORT_WIDTH * rows || lent.lags.len() < rows;
     if events_short || rows_short {
         return Err(Answer::refused(3, 0));
+    }
+    Ok(())
+}
+
+/// Takes the events one after another, up to the first that is refused.
+fn apply_all(
+    events: &EventSlices,
+    table: &Table,
+    tree: &mut Tree,
+    counts: &mut Counts,
+) -> Result<(), Answer> {
+    for (place, (class, length)) in events.classes.iter().zip(events.lengths).enumerate() {
+        let event = decode(table, *class, *length).map_err(|n| Answer::refused(n, place))?;
+        apply(event, place, tree, counts)?;
     }
     Ok(())
 }

@@ -2,6 +2,7 @@
 
 use std::collections::VecDeque;
 
+use crate::inside::Choices;
 use crate::shares;
 use crate::table::Table;
 
@@ -22,7 +23,8 @@ pub struct RowState {
     pub start: u64,
     pub finish: u64,
     pub virtual_time: u64,
-    head: Option<Packet>,
+    /// The packet itself at every level, so that each row above can tell when it arrived.
+    pub head: Option<Packet>,
     /// A sending class's packets, first its head; empty at other rows.
     queue: VecDeque<Packet>,
 }
@@ -41,6 +43,8 @@ pub struct Tree<'a> {
     pub rows: Vec<RowState>,
     /// Packets in the order in which they went on the line.
     pub order: Vec<u32>,
+    /// Where the choices are counted, if they are.
+    choices: Option<&'a mut Choices>,
 }
 
 impl<'a> Tree<'a> {
@@ -49,6 +53,15 @@ impl<'a> Tree<'a> {
             table,
             rows: vec![RowState::default(); table.rows.len()],
             order: Vec::new(),
+            choices: None,
+        }
+    }
+
+    /// A tree whose choices are counted.
+    pub fn counting(table: &'a Table, choices: &'a mut Choices) -> Tree<'a> {
+        Tree {
+            choices: Some(choices),
+            ..Tree::new(table)
         }
     }
 
@@ -110,18 +123,23 @@ impl<'a> Tree<'a> {
         self.set_head(row, packet, start);
     }
 
-    /// Raises the row's virtual time as far as needed and picks among its children.
+    /// Raises the row's virtual time as far as needed and takes the head of a child: of the
+    /// eligible ones that of the least finish, of equal finishes the head that arrived first.
     fn take_from_children(&mut self, row: usize) -> Option<Packet> {
-        let children = &self.table.rows[row].children;
-        let with_head = || children.iter().filter(|c| self.rows[**c].head.is_some());
-        let least_start = with_head().map(|c| self.rows[*c].start).min()?;
+        let children = self.table.rows[row].children.iter().map(|c| &self.rows[*c]);
+        let waiting = children.filter_map(|child| Some((child, child.head?)));
+        let least_start = waiting.clone().map(|(child, _)| child.start).min()?;
         let virtual_time = self.rows[row].virtual_time.max(least_start);
-        let taken = with_head()
-            .filter(|c| self.rows[**c].start <= virtual_time)
-            .min_by_key(|c| (self.rows[**c].finish, **c))?;
-        let packet = self.rows[*taken].head;
+        let eligible = waiting.filter(|(child, _)| child.start <= virtual_time);
+        let (taken, packet) = eligible
+            .clone()
+            .min_by_key(|(child, head)| (child.finish, head.place))?;
+        if let Some(choices) = &mut self.choices {
+            let equal = eligible.filter(|(child, _)| child.finish == taken.finish);
+            choices.count(equal.map(|(_, head)| head.place), packet.place);
+        }
         self.rows[row].virtual_time = virtual_time;
-        packet
+        Some(packet)
     }
 
     /// The start of a row that had nothing to send: no earlier than its parent's time.

@@ -1,6 +1,8 @@
 //! The worked runs of the rules, P1 to P12 and the unmarked ones.
 
-use crate::common::{accepted, chain, refused, FINISH, HALVES, P1_EVENTS, P4_ROWS, ROOT};
+use crate::common::{
+    accepted, chain, refused, FINISH, HALVES, P1_EVENTS, P3_EVENTS, P4_ROWS, ROOT, THIRDS,
+};
 
 #[test]
 fn p1_whole() {
@@ -26,11 +28,9 @@ fn p2_cut_after_the_fourth_event() {
 }
 
 #[test]
-fn p3_equal_finishes_take_the_lowest_row() {
-    let rows = [ROOT, (10, 1, 280), (20, 1, 280), (30, 1, 280)];
-    let events = [(10, 100), (30, 100), (20, 100), FINISH, FINISH, FINISH];
-    let outcome = accepted(&rows, &events);
-    assert_eq!(outcome.order, [0, 2, 1]);
+fn p3_equal_finishes_take_the_earliest_arrival() {
+    let outcome = accepted(&THIRDS, &P3_EVENTS);
+    assert_eq!(outcome.order, [0, 1, 2]);
     assert_eq!(outcome.root_virtual_time(), 252000);
 }
 

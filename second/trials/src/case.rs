@@ -1,6 +1,6 @@
 //! A table with an event list: as numbers, as text, and what a run answers to it.
 
-use second::{run, Answer, EventSlices, Room, TableSlices};
+use second::{inside, run, Answer, EventSlices, Inside, Room, TableSlices};
 
 #[derive(Clone, Copy, Debug, PartialEq, Eq)]
 pub struct Row {
@@ -54,6 +54,15 @@ impl Case {
 
     /// The run over slices of this room.
     pub fn run(&self, room: &mut Room) -> Answer {
+        self.over_slices(|table, events| run(table, events, room.lend()))
+    }
+
+    /// The run from inside, or its refusal.
+    pub fn inside(&self) -> Result<Inside, Answer> {
+        self.over_slices(inside)
+    }
+
+    fn over_slices<T>(&self, work: impl FnOnce(TableSlices, EventSlices) -> T) -> T {
         let rows = |of: fn(&Row) -> u32| self.rows.iter().map(of).collect::<Vec<u32>>();
         let events = |of: fn(&Event) -> u32| self.events.iter().map(of).collect::<Vec<u32>>();
         let table = TableSlices {
@@ -65,6 +74,6 @@ impl Case {
             classes: &events(|e| e.class),
             lengths: &events(|e| e.length),
         };
-        run(table, events, room.lend())
+        work(table, events)
     }
 }

@@ -18,11 +18,17 @@ enum Manner {
     Backlog,
     /// Few classes for a while, then others.
     Few,
+    /// Rounds from the last class to the first.
+    Reversed,
+    /// Rounds, each in an order of its own.
+    Shuffled,
 }
 
 #[derive(Clone, Copy)]
 enum Lengths {
     Same(u32),
+    /// Once, twice or three times this.
+    Multiples(u32),
     /// Each class has its own.
     OfClass,
     /// The shortest and the longest.
@@ -48,6 +54,8 @@ pub fn random_events(rows: &[Row], most: usize, drains: bool, random: &mut Rando
         Manner::Rounds,
         Manner::Backlog,
         Manner::Few,
+        Manner::Reversed,
+        Manner::Shuffled,
     ];
     let manner = random.pick(&manners);
     let mut growing = Growing {
@@ -59,9 +67,10 @@ pub fn random_events(rows: &[Row], most: usize, drains: bool, random: &mut Rando
         drains,
     };
     let burst = random.between(1, 12);
-    if matches!(manner, Manner::Backlog) {
-        growing.round(random);
-        growing.round(random);
+    match manner {
+        Manner::Backlog => (0..2).for_each(|_| growing.round(random)),
+        Manner::Reversed => growing.sending.reverse(),
+        _ => {}
     }
     while growing.has_room() {
         growing.step(manner, burst, random);
@@ -72,11 +81,15 @@ pub fn random_events(rows: &[Row], most: usize, drains: bool, random: &mut Rando
     growing.events
 }
 
-/// Rounds have packets of one length more often than not, so that tags are equal.
+/// Rounds have packets of one length more often than not, so that tags are equal. Where
+/// they are not in the order of rows the lengths always are such that tags can be equal.
 fn random_lengths(manner: Manner, random: &mut Random) -> Lengths {
     let same = Lengths::Same(random.pick(&[1, 64, 840, 1500, 2048]));
-    if matches!(manner, Manner::Rounds) && random.one_in(2) {
-        return same;
+    let multiples = Lengths::Multiples(random.pick(&[1, 64, 420, 682]));
+    match manner {
+        Manner::Rounds if random.one_in(2) => return same,
+        Manner::Reversed | Manner::Shuffled => return random.pick(&[same, multiples]),
+        _ => {}
     }
     let kinds = [
         same,
@@ -143,7 +156,10 @@ impl Growing {
                 }
                 self.finish(self.held);
             }
-            Manner::Rounds => {
+            Manner::Rounds | Manner::Reversed | Manner::Shuffled => {
+                if matches!(manner, Manner::Shuffled) {
+                    random.shuffle(&mut self.sending);
+                }
                 self.round(random);
                 self.finish(random.between(classes.div_ceil(2), classes + 1));
             }
@@ -168,6 +184,7 @@ impl Growing {
     fn length(&self, class: u32, random: &mut Random) -> u32 {
         let most = match self.lengths {
             Lengths::Same(length) => return length,
+            Lengths::Multiples(unit) => return unit * random.between(1, 3) as u32,
             // MOST_BYTES divides 2^32, so it does not matter that the product wraps.
             Lengths::OfClass => return 1 + class.wrapping_mul(7) % MOST_BYTES,
             Lengths::Ends => return random.pick(&[1, MOST_BYTES]),
@@ -181,6 +198,8 @@ impl Growing {
 
 #[cfg(test)]
 mod tests {
+    use std::collections::BTreeMap;
+
     use super::*;
     use crate::{random_table, Case, Shape};
 
@@ -228,6 +247,22 @@ mod tests {
     fn the_line_runs_empty_often_in_some_lists() {
         let often = |case: &Case| held_and_empty(&case.events).1 > 20;
         assert!(cases(false).filter(often).count() > 20);
+    }
+
+    #[test]
+    fn rounds_come_in_row_order_reversed_and_in_other_orders() {
+        let mut seen = BTreeMap::new();
+        for case in cases(false) {
+            let in_rows = sending(&case.rows);
+            let events = case.events.iter().map(|event| event.class);
+            let first: Vec<u32> = events.take(in_rows.len()).collect();
+            let reversed = first.iter().rev().eq(&in_rows);
+            let is_round = first.iter().collect::<BTreeSet<_>>() == in_rows.iter().collect();
+            if is_round && in_rows.len() > 2 {
+                *seen.entry((first == in_rows, reversed)).or_insert(0) += 1;
+            }
+        }
+        assert!(seen.len() == 3 && seen.into_values().all(|lists| lists > 20));
     }
 
     #[test]

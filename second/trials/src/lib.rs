@@ -25,4 +25,6 @@ pub use printed::{End, Printed};
 pub use random::Random;
 pub use show::difference;
 pub use steady::steady_case;
-pub use tables::{allowed_shares, fresh_identifier, greatest_share, random_table, Shape, SHAPES};
+pub use tables::{
+    allowed_shares, even_table, fresh_identifier, greatest_share, random_table, Shape, SHAPES,
+};

@@ -39,10 +39,18 @@ impl Random {
     pub fn pick<T: Copy>(&mut self, from: &[T]) -> T {
         from[self.below(from.len())]
     }
+
+    pub fn shuffle<T>(&mut self, all: &mut [T]) {
+        for last in (1..all.len()).rev() {
+            all.swap(last, self.below(last + 1));
+        }
+    }
 }
 
 #[cfg(test)]
 mod tests {
+    use std::collections::BTreeSet;
+
     use super::Random;
 
     #[test]
@@ -54,6 +62,18 @@ mod tests {
         assert_eq!(numbers(7, 3), numbers(7, 3));
         assert_ne!(numbers(7, 3), numbers(8, 3));
         assert_ne!(numbers(7, 3), numbers(7, 4));
+    }
+
+    #[test]
+    fn every_order_comes_up() {
+        let mut random = Random::new(1, 1);
+        let mut orders = BTreeSet::new();
+        for _ in 0..200 {
+            let mut order = [1, 2, 3, 4];
+            random.shuffle(&mut order);
+            orders.insert(order);
+        }
+        assert_eq!(orders.len(), 24);
     }
 
     #[test]

@@ -1,9 +1,6 @@
 //! Lists for timing: even tables whose classes mostly have packets waiting.
 
-use second::MOST_ROWS;
-
-use crate::tables::even_table;
-use crate::{sending, Case, Event, Random, FINISH};
+use crate::{even_table, sending, Case, Event, Random, FINISH};
 
 /// Packets that wait for each class from the beginning.
 const WAITING: usize = 4;
@@ -11,8 +8,7 @@ const WAITING: usize = 4;
 /// A table with this many classes under each row, level by level, and so many events:
 /// first some packets for each class, then arrivals and finishes in turn.
 pub fn steady_case(fans: &[usize], events: usize) -> Case {
-    let names: Vec<u32> = (1..=MOST_ROWS as u32).collect();
-    let rows = even_table(fans, &names);
+    let rows = even_table(fans);
     let classes = sending(&rows);
     let first = (WAITING * classes.len()).min(events / 2);
     let mut random = Random::new(1, events as u64);

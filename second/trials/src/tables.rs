@@ -22,6 +22,8 @@ pub enum Shape {
     Even,
     /// Two levels, with equal shares in each.
     Groups,
+    /// Three or four levels, with equal shares in each.
+    Levels,
     /// The root and one class.
     Two,
     /// As many rows as there may be.
@@ -29,7 +31,7 @@ pub enum Shape {
 }
 
 /// All shapes.
-pub const SHAPES: [Shape; 9] = [
+pub const SHAPES: [Shape; 10] = [
     Shape::Flat,
     Shape::Chain,
     Shape::Deep,
@@ -37,6 +39,7 @@ pub const SHAPES: [Shape; 9] = [
     Shape::Any,
     Shape::Even,
     Shape::Groups,
+    Shape::Levels,
     Shape::Two,
     Shape::Full,
 ];
@@ -45,11 +48,12 @@ pub const SHAPES: [Shape; 9] = [
 pub fn random_table(shape: Shape, first_share: u32, random: &mut Random) -> Vec<Row> {
     let names = identifiers(random);
     let goal = match shape {
-        Shape::Even => return even_table(&[random.between(2, 40)], &names),
+        Shape::Even => return even(&[random.between(2, 40)], names),
         Shape::Groups => {
             let fans = [random.between(2, 6), random.between(2, 8)];
-            return even_table(&fans, &names);
+            return even(&fans, names);
         }
+        Shape::Levels => return even(&random_fans(random), names),
         Shape::Full => return full_table(first_share, names, random),
         Shape::Two => 2,
         Shape::Flat => random.between(3, 40),
@@ -66,9 +70,22 @@ pub fn random_table(shape: Shape, first_share: u32, random: &mut Random) -> Vec<
     growing.rows
 }
 
-/// A table with this many classes under each row, level by level, and equal shares.
-pub fn even_table(fans: &[usize], names: &[u32]) -> Vec<Row> {
-    let mut growing = Growing::new(names.to_vec());
+/// Of three or four levels, with at most 155 classes in all. Where a row has two children
+/// of equal shares their finishes are seldom equal, so there are mostly more.
+fn random_fans(random: &mut Random) -> Vec<usize> {
+    let (levels, most) = random.pick(&[(3, 5), (4, 3)]);
+    let fan = |_| random.between(2, most).max(random.between(2, most));
+    (0..levels).map(fan).collect()
+}
+
+/// A table with this many classes under each row, level by level, and equal shares. Its
+/// identifiers are 1, 2 and so on.
+pub fn even_table(fans: &[usize]) -> Vec<Row> {
+    even(fans, (1..=MOST_ROWS as u32).collect())
+}
+
+fn even(fans: &[usize], names: Vec<u32>) -> Vec<Row> {
+    let mut growing = Growing::new(names);
     let mut level = vec![0];
     for fan in fans {
         let first = growing.rows.len();
@@ -308,6 +325,19 @@ mod tests {
             let deepest = tables(shape).flat_map(|rows| depths(&rows)).max();
             assert_eq!(deepest, Some(8));
         }
+    }
+
+    #[test]
+    fn levels_are_three_or_four_with_equal_shares() {
+        let mut deepest = BTreeSet::new();
+        for rows in tables(Shape::Levels) {
+            let depths = depths(&rows);
+            let levels: BTreeSet<_> = depths.iter().zip(rows.iter().map(|r| r.share)).collect();
+            let most = depths.iter().max().copied().unwrap_or(0);
+            assert_eq!(levels.len(), most + 1);
+            deepest.insert(most);
+        }
+        assert_eq!(deepest, BTreeSet::from([3, 4]));
     }
 
     #[test]

@@ -1,10 +1,10 @@
-//! What must hold of every run, looked at over random lists from events and order alone.
+//! What must hold of every run, looked at over random lists from events, order and heads.
 #![forbid(unsafe_code)]
 
 use std::collections::BTreeSet;
 
 use second::sheet::climb;
-use second::{run, sentence, EventSlices, Room, TableSlices, REPORT_WIDTH};
+use second::{inside, run, sentence, EventSlices, Room, TableSlices, REPORT_WIDTH};
 use trials::{random_events, random_table, Case, Event, Random, Row, FINISH, SHAPES};
 
 const LISTS: u64 = 3000;
@@ -147,14 +147,27 @@ impl Run {
         (0..=event).rev().take_while(holds).last()
     }
 
-    /// An event and the results of the list that ends with it.
-    fn cut(&mut self) -> (usize, Room) {
+    /// An event and the list that ends with it.
+    fn cut(&mut self) -> (usize, Case) {
         let last = self.random.below(self.case.events.len());
         let cut = Case {
             rows: self.case.rows.clone(),
             events: self.case.events[..=last].to_vec(),
         };
-        (last, accepted(&cut))
+        (last, cut)
+    }
+
+    fn children(&self, row: usize) -> Vec<usize> {
+        let is_child = |child: &usize| self.paths[*child].get(1) == Some(&row);
+        (0..self.case.rows.len()).filter(is_child).collect()
+    }
+
+    /// The packet of a sending class that came first of those it holds after this event.
+    fn first_held(&self, class: usize, event: usize) -> Option<u32> {
+        let arrived = |place: &usize| self.is_below(&self.case.events[*place], class);
+        let finished = self.finished(class, 0..event + 1).count();
+        let mut arrived = (0..=event).filter(arrived);
+        arrived.nth(finished).map(|place| place as u32)
     }
 }
 
@@ -203,7 +216,8 @@ fn nothing_but_the_results_is_written() {
 #[test]
 fn the_line_is_never_idle_while_a_packet_waits() {
     each_list(|run| {
-        let (last, results) = run.cut();
+        let (last, cut) = run.cut();
+        let results = accepted(&cut);
         let sent = run.trace.sent[last];
         assert_eq!(results.order, run.results.order[..sent]);
         let finished = run.trace.finished[..=last].iter().flatten().count();
@@ -247,9 +261,30 @@ fn a_class_sends_its_packets_as_they_came() {
 }
 
 #[test]
+fn no_two_children_have_heads_of_the_same_place() {
+    each_list(|run| {
+        let (last, cut) = run.cut();
+        let heads = cut.inside().expect("the list is accepted").heads;
+        for (row, head) in heads.iter().enumerate() {
+            let children = run.children(row);
+            let below: Vec<u32> = children.iter().filter_map(|c| heads[*c]).collect();
+            let places: BTreeSet<u32> = below.iter().copied().collect();
+            assert_eq!(places.len(), below.len());
+            // No place is made up, or lost on the way up.
+            match head {
+                _ if children.is_empty() => assert_eq!(*head, run.first_held(row, last)),
+                Some(place) => assert!(places.contains(place)),
+                None => assert!(places.is_empty()),
+            }
+        }
+    });
+}
+
+#[test]
 fn lags_are_those_the_order_tells_and_never_over_the_bound() {
     each_list(|run| {
-        let (last, results) = run.cut();
+        let (last, cut) = run.cut();
+        let results = accepted(&cut);
         let bound = 2520 * run.largest() as i64;
         assert_eq!(results.lags[0], 0);
         for (row, path) in run.paths.iter().enumerate().skip(1) {
@@ -361,6 +396,11 @@ fn any_numbers_are_answered_and_a_refusal_writes_nothing() {
             sentence(&answer, &table, &events).is_none(),
             answer.number == 0
         );
+        // From inside there are no slices that could be too short.
+        if answer.number != 3 {
+            let refusal = (answer.number != 0).then_some(answer);
+            assert_eq!(inside(table, events).err(), refusal);
+        }
         numbers.insert(answer.number);
     }
     // Depth 9 needs more rows than these tables have.

@@ -29,7 +29,7 @@ takes-requires c κs =
     let picked = c .before .before .before .before .before .before .before in
     let looked = picked .before .before .before .before in
     let known = looked .before .before .before .before .pre in
-    let child : picked .least .result < most-rows = rw (picked .least .ensures) (least-below _ _ _ most-rows (omega arith) (known .0)) in
+    let child : picked .least .result < most-rows = rw (picked .least .ensures) (least-below _ _ _ _ most-rows (omega arith) (known .0)) in
     let fits : looked .raised .result + most-choice < 2 ^ 64 = rw (looked .raised .ensures) (raised-fits (known .1 .1 .1) _ _ _) in
     (known .1 .0, (child, (fits, (known .1 .1 .0, known .1 .1 .1))))
 

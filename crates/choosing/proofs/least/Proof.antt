@@ -13,7 +13,7 @@ use Rattle.choosing.proofs.least.Tie as tie
 
 abbrev Inv-loop : tie.InvT-loop
 Inv-loop rows parents starts keys heads p v best₀ i₀ best i =
-    (i ≤ rows) × (best ≡ least (eligible-of parents starts heads p v) (λ (j : ℕ). getD keys j 0) i)
+    (i ≤ rows) × (best ≡ least (eligible-of parents starts heads p v) (λ (j : ℕ). getD keys j 0) (λ (j : ℕ). getD heads j 0) i)
 
 abbrev μ-loop : tie.MeasureT-loop
 μ-loop rows parents starts keys heads p v best₀ i₀ best i = rows - i
@@ -26,7 +26,7 @@ eligible-requires : tie.Need-eligible-requires Inv-loop μ-loop
 eligible-requires c κs = omega arith
 
 lesser-requires : tie.Need-lesser-requires Inv-loop μ-loop
-lesser-requires c κs = (rw (c .before .before .loop .inv .1) (least-below _ _ _ most-rows (omega arith) (omega arith)), omega arith)
+lesser-requires c κs = (rw (c .before .before .loop .inv .1) (least-below _ _ _ _ most-rows (omega arith) (omega arith)), omega arith)
 
 add-i : tie.Need-add-i Inv-loop μ-loop
 add-i c = omega arith
@@ -35,7 +35,7 @@ loop-less : tie.Need-loop-less Inv-loop μ-loop
 loop-less c = omega arith
 
 loop-again : tie.Need-loop-again Inv-loop μ-loop
-loop-again c = (omega arith, c .lesser .ensures ∙ least-more _ _ _ _ _ (c .before .eligible .ensures) (c .before .before .before .loop .inv .1))
+loop-again c = (omega arith, c .lesser .ensures ∙ least-more _ _ _ _ _ _ (c .before .eligible .ensures) (c .before .before .before .loop .inv .1))
 
 returns : tie.Need-returns Inv-loop μ-loop
 returns c =

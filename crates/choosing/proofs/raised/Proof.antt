@@ -27,11 +27,11 @@ returns : tie.Need-returns
 unfolding raised waits child has-head
 returns c =
     let looked = c .before .before in
-    let first = looked .least .ensures ∙ least-waits _ _ _ _ _ (λ i. omega (arith, looked .before .pre .1 .1 i)) _ _ in
+    let first = looked .least .ensures ∙ least-waits _ _ _ _ _ (λ i. omega (arith, looked .before .pre .1 .1 i)) _ _ _ in
     rw (← first, c .if1 .taken)
 
 inside : (c : tie.Else1) → c .before .before .least .result < most-rows
-inside c = rw (c .before .before .least .ensures) (least-below _ _ _ most-rows (omega arith) (omega (arith, c .before .before .before .pre)))
+inside c = rw (c .before .before .least .ensures) (least-below _ _ _ _ most-rows (omega arith) (omega (arith, c .before .before .before .pre)))
 
 mul-larger : tie.Need-mul-larger
 mul-larger c = omega (arith, inside c)
@@ -46,7 +46,7 @@ returns-2 : tie.Need-returns-2
 unfolding raised waits child has-head
 returns-2 c =
     let looked = c .before .before .before .before in
-    let first = looked .least .ensures ∙ least-waits _ _ _ _ _ (λ i. omega (arith, looked .before .pre .1 .1 i)) _ _ in
+    let first = looked .least .ensures ∙ least-waits _ _ _ _ _ (λ i. omega (arith, looked .before .pre .1 .1 i)) _ _ _ in
     rw (← first, ne-eqb _ _ (c .before .before .if1 .left), c .larger .ensures)
 
 pub raised-spec : {M : Type 1} → statement M

@@ -71,29 +71,29 @@ pub record Somebody (tree : Tree) (why : Why) (x y : Rows) (p k : ℕ) : Type 0 
 
 -- a child with a head, as the rules test it
 module _ (tree : Tree) (x : Rows) (p : ℕ) where
-  waits-root : waits tree x p 0 ≡ false
+  pub waits-root : waits tree x p 0 ≡ false
   unfolding waits child
   waits-root = refl
 
-  kid-waits : (j : ℕ) → Kid tree p j → head x j ≢ 0 → waits tree x p j ≡ true
+  pub kid-waits : (j : ℕ) → Kid tree p j → head x j ≢ 0 → waits tree x p j ≡ true
   unfolding waits
   kid-waits j kid some = rw (kid-child tree p j kid, some-has x j some)
 
-  waits-kid : (j : ℕ) → j < tree .rows → waits tree x p j ≡ true → Kid tree p j × (head x j ≢ 0)
+  pub waits-kid : (j : ℕ) → j < tree .rows → waits tree x p j ≡ true → Kid tree p j × (head x j ≢ 0)
   unfolding waits
   waits-kid j inside is =
       let parts = and-eq-true-iff (child tree p j) (has-head x j) .0 is in
       (child-kid tree p j inside (parts .0), has-true x j (parts .1))
 
-  eligible-root : (v : ℕ) → eligible tree x p v 0 ≡ false
+  pub eligible-root : (v : ℕ) → eligible tree x p v 0 ≡ false
   unfolding eligible
   eligible-root v = rw waits-root
 
-  in-time-eligible : (v j : ℕ) → waits tree x p j ≡ true → start x j ≤ v → eligible tree x p v j ≡ true
+  pub in-time-eligible : (v j : ℕ) → waits tree x p j ≡ true → start x j ≤ v → eligible tree x p v j ≡ true
   unfolding eligible
   in-time-eligible v j wait early = rw (wait, le-leb (start x j) v early)
 
-  eligible-in-time : (v j : ℕ) → eligible tree x p v j ≡ true → (waits tree x p j ≡ true) × (start x j ≤ v)
+  pub eligible-in-time : (v j : ℕ) → eligible tree x p v j ≡ true → (waits tree x p j ≡ true) × (start x j ≤ v)
   unfolding eligible
   eligible-in-time v j is =
       let parts = and-eq-true-iff (waits tree x p j) (leb (start x j) v) .0 is in
@@ -101,10 +101,10 @@ module _ (tree : Tree) (x : Rows) (p : ℕ) where
 
   -- the waiting child with the least start, and how far the virtual time rises to it
   abbrev first : ℕ
-  first = least (waits tree x p) (start x) (tree .rows)
+  first = least (waits tree x p) (start x) (head x) (tree .rows)
 
-  first-found : Found (waits tree x p) (start x) (tree .rows) first
-  first-found = found (waits tree x p) (start x) waits-root (tree .rows)
+  first-found : Found (waits tree x p) (start x) (head x) (λ j. j < tree .rows) first
+  first-found = found (waits tree x p) (start x) (head x) waits-root (tree .rows)
 
   risen-none : first ≡ 0 → risen tree x p ≡ virtual x p
   unfolding risen
@@ -125,18 +125,18 @@ module _ (tree : Tree) (x : Rows) (p : ℕ) where
   no-further = go first-found (decLe (start x first) (virtual x p))
     where
       go :
-          Found (waits tree x p) (start x) (tree .rows) first → Dec (start x first ≤ virtual x p)
+          Found (waits tree x p) (start x) (head x) (λ j. j < tree .rows) first → Dec (start x first ≤ virtual x p)
           → (risen tree x p ≡ virtual x p) ⊎ ((j : ℕ) → Kid tree p j → head x j ≢ 0 → risen tree x p ≤ start x j)
       go (inl f) d = inl (risen-none (f .0))
       go (inr f) (yes low) = inl (omega (arith, risen-some (f .0)))
-      go (inr f) (no high) = inr λ j kid some. omega (arith, risen-some (f .0), f .1 .2 j (kid .inside) (kid-waits j kid some))
+      go (inr f) (no high) = inr λ j kid some. omega (arith, risen-some (f .0), f .1 .2 j (kid .inside) (kid-waits j kid some) .by-key)
 
   -- where a child has a head, one is eligible: that with the least start
   none-waiting :
       ((j : ℕ) → j < tree .rows → eligible tree x p (risen tree x p) j ≡ false) → (j : ℕ) → Kid tree p j → head x j ≡ 0
   none-waiting none j kid = go (ℕ-discrete (head x j) 0) first-found
     where
-      go : Dec (head x j ≡ 0) → Found (waits tree x p) (start x) (tree .rows) first → head x j ≡ 0
+      go : Dec (head x j ≡ 0) → Found (waits tree x p) (start x) (head x) (λ j. j < tree .rows) first → head x j ≡ 0
       go (yes e) f = e
       go (no some) (inl f) = both-ways (waits tree x p j) (head x j ≡ 0) (f .1 j (kid .inside)) (kid-waits j kid some)
       go (no some) (inr f) =
@@ -257,7 +257,7 @@ module _ (tree : Tree) (sound : Sound tree) (why : Why) (p : ℕ) (inner : Inner
 
   -- what p goes by, its children's heads and tags, is the same before and after
   somebody :
-      (k : ℕ) (y : Rows) → Took tree why p k x y → Best (eligible tree x p (risen tree x p)) (finish x) (tree .rows) k
+      (k : ℕ) (y : Rows) → Took tree why p k x y → Best (eligible tree x p (risen tree x p)) (finish x) (head x) (λ j. j < tree .rows) k
       → Somebody tree why x y p k
   somebody k y took best =
       record {
@@ -273,7 +273,7 @@ module _ (tree : Tree) (sound : Sound tree) (why : Why) (p : ℕ) (inner : Inner
                   let its = same j other in
                   let its-wait = kid-waits tree x p j other (λ e. some (its .head-same .packet-same ∙ e)) in
                   let its-test = in-time-eligible tree x p (risen tree x p) j its-wait (omega arith) in
-                  omega (arith, own .finish-same, best .2 j (other .inside) its-test);
+                  omega (arith, own .finish-same, best .2 j (other .inside) its-test .by-key);
               passes = rw (own .head-same .length-same) (took .passed);
               takes = record {
                 packet-same = took .took-head .packet-same ∙ sym (own .head-same .packet-same);
@@ -310,10 +310,10 @@ module _ (tree : Tree) (sound : Sound tree) (why : Why) (p : ℕ) (inner : Inner
 
   pub chooses-what : Nobody tree x (chooses tree why p x) p ⊎ ((k : ℕ) × Somebody tree why x (chooses tree why p x) p k)
   unfolding picked
-  chooses-what = go (found (eligible tree x p (risen tree x p)) (finish x) (eligible-root tree x p (risen tree x p)) (tree .rows))
+  chooses-what = go (found (eligible tree x p (risen tree x p)) (finish x) (head x) (eligible-root tree x p (risen tree x p)) (tree .rows))
     where
       go :
-          Found (eligible tree x p (risen tree x p)) (finish x) (tree .rows) (picked tree x p)
+          Found (eligible tree x p (risen tree x p)) (finish x) (head x) (λ j. j < tree .rows) (picked tree x p)
           → Nobody tree x (chooses tree why p x) p ⊎ ((k : ℕ) × Somebody tree why x (chooses tree why p x) p k)
       go (inl f) = inl (rw (chooses-none tree why p x (f .0)) (nobody (none-waiting tree x p (f .1))))
       go (inr f) =

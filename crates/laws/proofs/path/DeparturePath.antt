@@ -43,7 +43,7 @@ record Renewed (tree : Tree) (k : ℕ) (later : List Packet) (x y : Rows) : Type
   virtual-same : virtual y k ≡ virtual x k
 
 module _ (tree : Tree) (sound : Sound tree) (k : ℕ) (inside : k < tree .rows) (x : Rows) (full : Full x) where
-  renews-full : (later : List Packet) → Full (renews tree k later x)
+  pub renews-full : (later : List Packet) → Full (renews tree k later x)
   unfolding renews
   renews-full [] = full
   renews-full (packet ∷ later) = new-head-full tree sound Finished k (suc (packet .place)) (packet .length) k inside x full
@@ -132,6 +132,14 @@ module _ (tree : Tree) (sound : Sound tree) (a : Rows) (full : Full a) (k : ℕ)
         finish-same = refl;
         virtual-same = refl;
       }
+
+  -- every row has lost its head, or has it still
+  pub leaves-head : (r : ℕ) → r < tree .rows → (head (leaves tree k a) r ≡ 0) ⊎ (head (leaves tree k a) r ≡ head a r)
+  leaves-head r inside = go (within tree r k) refl
+    where
+      go : (b : Bool) → within tree r k ≡ b → (head (leaves tree k a) r ≡ 0) ⊎ (head (leaves tree k a) r ≡ head a r)
+      go true on = inl (leaves-on r inside on .none)
+      go false off = inr (leaves-off r inside off .kid .head-same .packet-same)
 
 -- ── the line's finish ──
 

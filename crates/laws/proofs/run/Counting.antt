@@ -63,8 +63,8 @@ sent-busy a b has same = rw (some-has a 0 has, some-has b 0 (λ none. has (sym s
 -- ── the invariant ──
 
 -- a packet of row k's queue, as its event has it
-record Known (tree : Tree) (events : Events) (k : ℕ) (packet : Packet) : Type 0 where
-  class-known : class-at tree events (packet .place) ≡ k
+pub record Known (tree : Tree) (events : Events) (k : ℕ) (packet : Packet) : Type 0 where
+  pub class-known : class-at tree events (packet .place) ≡ k
   length-known : length-word events (packet .place) ≡ packet .length
 
 abbrev places : List Packet → List ℕ
@@ -81,7 +81,7 @@ pub record Counted (tree : Tree) (events : Events) (n : ℕ) (box : Box) (done :
   done-sent : All (ForSender tree events) done
   pub bytes-agree : (r : ℕ) → r < tree .rows → bytes-of box r ≡ bytes-for tree events r done
   pub held-agree : (r : ℕ) → r < tree .rows → arrived tree events r n ≡ packets-for tree events r done + held-by box r
-  queue-known : (k : ℕ) → Sender tree k → All (Known tree events k) (queue-of box k)
+  pub queue-known : (k : ℕ) → Sender tree k → All (Known tree events k) (queue-of box k)
   queue-agree : (k : ℕ) → Sender tree k → only-for tree events k done ++ places (queue-of box k) ≡ arrivals-of tree events k n
 
 fresh-counted : (tree : Tree) (events : Events) → Counted tree events 0 fresh []

@@ -15,6 +15,9 @@ pub const FINISH: Event = (0, 0);
 /// Two classes with half of the line each.
 pub const HALVES: [Row; 3] = [ROOT, (10, 1, 420), (20, 1, 420)];
 
+/// Rows of worked run P3: three classes with a third of the line each.
+pub const THIRDS: [Row; 4] = [ROOT, (10, 1, 280), (20, 1, 280), (30, 1, 280)];
+
 /// Rows in which class 2 has a class below it.
 pub const TWO_LEVELS: [Row; 3] = [ROOT, (2, 1, 420), (3, 2, 420)];
 
@@ -23,6 +26,9 @@ pub const P4_ROWS: [Row; 5] = [ROOT, (2, 1, 420), (3, 1, 420), (4, 2, 420), (5, 
 
 /// The events of worked run P1 over `HALVES`.
 pub const P1_EVENTS: [Event; 6] = [(10, 100), (20, 100), (10, 100), FINISH, FINISH, FINISH];
+
+/// The events of worked run P3 over `THIRDS`.
+pub const P3_EVENTS: [Event; 6] = [(10, 100), (30, 100), (20, 100), FINISH, FINISH, FINISH];
 
 /// A table and an event list as separate columns.
 pub struct Columns {

@@ -15,11 +15,12 @@ use std::sync::atomic::{AtomicUsize, Ordering};
 use std::thread;
 
 use plan::trial;
+use second::Choices;
 use tally::Tally;
 use trials::{counted, difference, folders, Bench, Folder};
 
 const DEFAULT_SEED: u64 = 840;
-const DEFAULT_LISTS: usize = 2880;
+const DEFAULT_LISTS: usize = 3060;
 
 struct Settings {
     programs: [PathBuf; 2],
@@ -107,8 +108,10 @@ fn some_lists(
         let Some(list) = settings.lists.checked_sub(taken) else {
             return Ok(tally);
         };
-        let files = trial(settings.seed, list, settings.lists).files;
-        tally.add(list, bench.run(&files)?.agreed());
+        let trial = trial(settings.seed, list, settings.lists);
+        tally.add(list, bench.run(&trial.files)?.agreed());
+        let inside = trial.accepted.and_then(|case| case.inside().ok());
+        tally.choices += inside.map_or(Choices::default(), |inside| inside.choices);
     }
 }
 

@@ -22,7 +22,7 @@ enum Kind {
 
 use Kind::{Accepted, Faulty, FaultySheet, NoEvents, Refused, Sheet, TwiceDamaged};
 
-const ROUND: [Kind; 48] = [
+const ROUND: [Kind; 51] = [
     Accepted(Shape::Flat),
     Accepted(Shape::Flat),
     Accepted(Shape::Chain),
@@ -38,6 +38,9 @@ const ROUND: [Kind; 48] = [
     Accepted(Shape::Even),
     Accepted(Shape::Groups),
     Accepted(Shape::Groups),
+    Accepted(Shape::Levels),
+    Accepted(Shape::Levels),
+    Accepted(Shape::Levels),
     Accepted(Shape::Two),
     Accepted(Shape::Full),
     NoEvents,
@@ -77,6 +80,8 @@ const ROUND: [Kind; 48] = [
 pub struct Trial {
     pub name: String,
     pub files: Files,
+    /// The same in numbers, for a run that is accepted.
+    pub accepted: Option<Case>,
 }
 
 /// The list with this number, of so many besides the one of full size, which is the last.
@@ -97,6 +102,7 @@ fn sheet(manner: Manner, random: &mut Random) -> Trial {
     Trial {
         name: format!("Sheet({manner:?})"),
         files: sheet_files(manner, random),
+        accepted: None,
     }
 }
 
@@ -118,7 +124,12 @@ fn run(kind: Kind, number: usize, mut random: Random) -> Trial {
         put_in(&mut files, fault, &mut random);
         name = format!("{fault:?}");
     }
-    Trial { name, files }
+    let accepted = matches!(kind, Accepted(_) | NoEvents | Kind::FullSize).then_some(case);
+    Trial {
+        name,
+        files,
+        accepted,
+    }
 }
 
 /// The faults take turns, one after another where lists with faults follow each other.

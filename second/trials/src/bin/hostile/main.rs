@@ -1,6 +1,7 @@
 //! The program `hostile PROVED SECOND`: two folders' programs over damaged files and arguments.
 #![forbid(unsafe_code)]
 
+mod equal;
 mod form;
 mod plan;
 mod streams;

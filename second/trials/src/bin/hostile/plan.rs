@@ -4,6 +4,7 @@ use std::ffi::{OsStr, OsString};
 use std::fmt;
 use std::os::unix::ffi::OsStrExt;
 
+use crate::equal::equal_finishes;
 use crate::texts::{damaged, lengthened, Text};
 use trials::Program;
 
@@ -52,6 +53,7 @@ pub fn trials() -> Vec<Trial> {
         all.extend(with_table(&name, input.clone()));
         all.push(with_events(&name, input));
     }
+    all.extend(with_equal_finishes());
     all.extend(numbers_of_arguments());
     all.extend(sheet_arguments());
     all
@@ -95,6 +97,14 @@ fn with_events(name: &str, events: Input) -> Trial {
         program: Program::Replay,
         inputs: vec![bytes(TABLE), events],
     }
+}
+
+fn with_equal_finishes() -> impl Iterator<Item = Trial> {
+    equal_finishes().into_iter().map(|(name, case)| Trial {
+        name: format!("equal finishes: {name}"),
+        program: Program::Replay,
+        inputs: vec![bytes(&case.table_text()), bytes(&case.event_text())],
+    })
 }
 
 /// Files that are none, and names that are odd.
