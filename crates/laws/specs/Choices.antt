@@ -49,10 +49,10 @@ choices-of tree place Finish box =
     let k = line-class box in
     choices (depth tree k) tree Finished k (front tree place Finish box)
 
--- the rows after some choices, made one after another
-unfoldable pub made : Tree → Why → Rows → List Choice → Rows
-made tree why rows [] = rows
-made tree why rows (choice ∷ later) = made tree why (chooses tree why (choice .chooser) (choice .rows)) later
+-- some choices made one after another lead from the first rows to the last: each finds the rows as the one before it left them
+unfoldable pub Made : Tree → Why → Rows → List Choice → Rows → Type 0
+Made tree why rows [] last = last ≡ rows
+Made tree why rows (choice ∷ later) last = (choice .rows ≡ rows) × Made tree why (chooses tree why (choice .chooser) rows) later last
 
 -- ── looking ──
 
@@ -86,7 +86,9 @@ pub record Alone (tree : Tree) (rows : Rows) (p k : ℕ) : Type 0 where
 -- p's choice among these rows
 pub record Clear (tree : Tree) (rows : Rows) (p : ℕ) : Type 0 where
   pub apart : Apart tree rows
-  -- who is taken, if any, is the only one with its finish and place
+  -- nobody is taken only where no child has a head
+  pub nobody : pick tree rows p ≡ 0 → (j : ℕ) → Kid tree p j → head rows j ≡ 0
+  -- who is taken is the only one with its finish and place
   pub alone : pick tree rows p ≢ 0 → Alone tree rows p (pick tree rows p)
   -- and whichever children are looked at first, the same one has the least start, and the same one is taken
   pub same-first :

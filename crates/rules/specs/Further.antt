@@ -68,10 +68,9 @@ head-counts =
           ∷ [];
     }
 
--- equal finishes at inner rows, by the places of packets two levels below, as often against the order of the rows as with it. First class 2
--- has packet 3 and class 3 packet 4 for its head, with finish 504000: 3 goes first, though class 3 holds packet 2, which is older. In class
--- 4 classes 6 and 7 then have packets 8 and 6 with finish 504000: 6 is taken. And with that class 2 has finish 672000, as class 3 has with packet 2:
--- 2 goes first
+-- three equal finishes below and at the root, two of them against the order of the rows. Classes 2 and 3, whose packets are two levels below
+-- them, have finish 504000 with packets 3 and 4: 3 goes first, though class 3 holds packet 2, which is older than both. Then classes 6 and 7
+-- have finish 504000 with packets 8 and 6: class 4 takes 6. With that class 2 has finish 672000, as class 3 has with packet 2: 2 goes first
 unfoldable pub waited : Run
 waited =
     record {

@@ -132,7 +132,7 @@ module _ (tree : Tree) (x : Rows) (p : ℕ) where
       go (inr f) (no high) = inr λ j kid some. omega (arith, risen-some (f .0), f .1 .2 j (kid .inside) (kid-waits j kid some) .by-key)
 
   -- where a child has a head, one is eligible: that with the least start
-  none-waiting :
+  pub none-waiting :
       ((j : ℕ) → j < tree .rows → eligible tree x p (risen tree x p) j ≡ false) → (j : ℕ) → Kid tree p j → head x j ≡ 0
   none-waiting none j kid = go (ℕ-discrete (head x j) 0) first-found
     where

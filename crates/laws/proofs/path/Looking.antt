@@ -11,9 +11,10 @@ use native.Mathlib.Omega.{arith}
 use Rattle.input.specs.Classes.{Tree}
 use Rattle.rules.specs.Box.{Rows, start, finish, head}
 use Rattle.rules.specs.Steps.{least, waits, eligible, raised, pick}
+use Rattle.laws.specs.Sound.{Kid}
 use Rattle.laws.specs.Choices.{looked, Covers, Apart, Before, Alone, Clear}
 use Rattle.laws.proofs.path.Least.{Best, Found, found, looked-found, found-same}
-use Rattle.laws.proofs.path.Choosing.{waits-root, kid-waits, waits-kid, eligible-root, in-time-eligible, eligible-in-time}
+use Rattle.laws.proofs.path.Choosing.{waits-root, kid-waits, waits-kid, eligible-root, in-time-eligible, eligible-in-time, none-waiting}
 
 module _ (tree : Tree) (x : Rows) (p : ℕ) (apart : Apart tree x) where
   -- two children that wait with one head are one
@@ -29,7 +30,10 @@ module _ (tree : Tree) (x : Rows) (p : ℕ) (apart : Apart tree x) where
   then-waits : (j : ℕ) → in-time j → waits tree x p j ≡ true
   then-waits j test = eligible-in-time tree x p (raised tree x p) j test .0
 
-  picked : Found (eligible tree x p (raised tree x p)) (finish x) (head x) (λ j. j < tree .rows) (pick tree x p)
+  abbrev Picked : Type 0
+  Picked = Found (eligible tree x p (raised tree x p)) (finish x) (head x) (λ j. j < tree .rows) (pick tree x p)
+
+  picked : Picked
   unfolding pick
   picked = found (eligible tree x p (raised tree x p)) (finish x) (head x) (eligible-root tree x p (raised tree x p)) (tree .rows)
 
@@ -81,13 +85,16 @@ module _ (tree : Tree) (x : Rows) (p : ℕ) (apart : Apart tree x) where
   clear =
       record {
         apart = apart;
-        alone = λ some. go some picked;
+        nobody = λ none. idle none picked;
+        alone = λ some. taken some picked;
         same-first = same-first;
         same-pick = same-pick;
       }
     where
-      go :
-          pick tree x p ≢ 0 → Found (eligible tree x p (raised tree x p)) (finish x) (head x) (λ j. j < tree .rows) (pick tree x p)
-          → Alone tree x p (pick tree x p)
-      go some (inl f) = absurd (some (f .0))
-      go some (inr f) = alone (pick tree x p) (f .1)
+      idle : pick tree x p ≡ 0 → Picked → (j : ℕ) → Kid tree p j → head x j ≡ 0
+      idle none (inl f) = none-waiting tree x p (f .1)
+      idle none (inr f) = absurd (f .0 none)
+
+      taken : pick tree x p ≢ 0 → Picked → Alone tree x p (pick tree x p)
+      taken some (inl f) = absurd (some (f .0))
+      taken some (inr f) = alone (pick tree x p) (f .1)

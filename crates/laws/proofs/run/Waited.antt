@@ -19,7 +19,7 @@ use Rattle.rules.specs.declared.Why.the-variants.{Finished, Arrived}
 use Rattle.laws.specs.Sound.{Sound, Kid, Inner, Sender, ArrivalFits}
 use Rattle.laws.specs.Moves.{Full}
 use Rattle.laws.specs.Kept.{HeadOf, Kept}
-use Rattle.laws.specs.Choices.{Choice, choices, why-of, front, choices-of, made, Apart, Clear}
+use Rattle.laws.specs.Choices.{Choice, choices, why-of, front, choices-of, Made, Apart, Clear}
 use Rattle.laws.specs.History.{Accepted}
 use Rattle.laws.proofs.tree.Paths.{kid-apart, parent-is-inner, self-within, parent-within, one-child}
 use Rattle.laws.proofs.tree.Depths.{kid-deeper, lower-kid}
@@ -35,9 +35,8 @@ use Rattle.laws.proofs.run.Counting.{Known, counted}
 
 -- ── the choices are those that the rules make ──
 
-up-made :
-    (d : ℕ) (tree : Tree) (why : Why) (r : ℕ) (x : Rows) → up d tree why r x ≡ made tree why x (choices d tree why r x)
-unfolding up choices made
+up-made : (d : ℕ) (tree : Tree) (why : Why) (r : ℕ) (x : Rows) → Made tree why x (choices d tree why r x) (up d tree why r x)
+unfolding up choices Made
 up-made zero tree why r x = refl
 up-made (suc d) tree why r x = go (has-head x p) (up-made d tree why p next)
   where
@@ -48,16 +47,16 @@ up-made (suc d) tree why r x = go (has-head x p) (up-made d tree why p next)
     next = chooses tree why p x
 
     go :
-        (b : Bool) → up d tree why p next ≡ made tree why next (choices d tree why p next)
-        → cond b x (up d tree why p next) ≡ made tree why x (cond b [] (record { chooser = p; rows = x } ∷ choices d tree why p next))
+        (b : Bool) → Made tree why next (choices d tree why p next) (up d tree why p next)
+        → Made tree why x (cond b [] (record { chooser = p; rows = x } ∷ choices d tree why p next)) (cond b x (up d tree why p next))
     go true later = refl
-    go false later = later
+    go false later = (refl, later)
 
--- what an event leaves of the rows is what its choices leave
+-- an event's choices lead from the rows before the first of them to the rows that the event leaves
 pub choices-made :
     (tree : Tree) (place : ℕ) (event : Event) (box : Box)
-    → step tree place event box .rows ≡ made tree (why-of event) (front tree place event box) (choices-of tree place event box)
-unfolding step arrival arrives departure goes-on why-of front choices-of made
+    → Made tree (why-of event) (front tree place event box) (choices-of tree place event box) (step tree place event box .rows)
+unfolding step arrival arrives departure goes-on why-of front choices-of Made
 choices-made tree place (Arrival class length) box = go (has-head (box .rows) k)
   where
     k : ℕ
@@ -68,8 +67,8 @@ choices-made tree place (Arrival class length) box = go (has-head (box .rows) k)
 
     go :
         (b : Bool)
-        → cond b (box .rows) (up (depth tree k) tree Arrived k first)
-        ≡ made tree Arrived (cond b (box .rows) first) (cond b [] (choices (depth tree k) tree Arrived k (cond b (box .rows) first)))
+        → Made tree Arrived (cond b (box .rows) first) (cond b [] (choices (depth tree k) tree Arrived k (cond b (box .rows) first)))
+        (cond b (box .rows) (up (depth tree k) tree Arrived k first))
     go true = refl
     go false = up-made (depth tree k) tree Arrived k first
 choices-made tree place Finish box =
