@@ -1,10 +1,12 @@
--- Small class tables, and what the definitions refuse of them.
+-- Small class tables and lengths of packets, and what the definitions refuse of them.
 -- Assumes nothing.
+use Prim.Native.Nat.{ℕ}
 use mathlib.Core.Path.{_≡_, refl}
+use mathlib.Core.Bool.{true}
 use mathlib.Core.List.{List, [], _∷_, map}
 use Rattle.input.specs.Shares.{allowed}
 use Rattle.input.specs.Classes.{Table, place-of, earlier, parent-of, zeros, with-row, read, tree-of, child, children-share}
-use Rattle.input.specs.Refusals.{nothing, given, or-else, first, first-below, doubled, root-refused, class-refused, row-refused, shares-refused, table-refused}
+use Rattle.input.specs.Refusals.{nothing, given, or-else, first, first-below, doubled, root-refused, class-refused, row-refused, shares-refused, table-refused, packet-refused}
 use Rattle.input.specs.Lent.{table-of}
 
 pub tables : List Table
@@ -28,3 +30,21 @@ pub refused :
 unfolding tables allowed place-of earlier parent-of zeros with-row read tree-of child children-share nothing given or-else first
     first-below doubled root-refused class-refused row-refused shares-refused table-refused
 refused = refl
+
+-- the edges, and two lengths between
+pub lengths : List ℕ
+lengths = 0 ∷ 1 ∷ 2048 ∷ 2049 ∷ 9000 ∷ 9001 ∷ 4294967295 ∷ []
+
+-- a packet for a sending class, at place 3
+pub lengths-refused :
+    map (packet-refused 3 true) lengths
+    ≡ record { number = 13; place = 3; second = 0 }
+    ∷ nothing
+    ∷ nothing
+    ∷ nothing
+    ∷ nothing
+    ∷ record { number = 13; place = 3; second = 0 }
+    ∷ record { number = 13; place = 3; second = 0 }
+    ∷ []
+unfolding lengths nothing given or-else first packet-refused
+lengths-refused = refl

@@ -20,7 +20,7 @@ abbrev pub least-bytes : ℕ
 least-bytes = 1
 
 abbrev pub most-bytes : ℕ
-most-bytes = 2048
+most-bytes = 9000
 
 -- parts of a share
 abbrev pub least-share : ℕ

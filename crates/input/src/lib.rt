@@ -16,7 +16,7 @@ pub const MOST_EVENTS: usize = 65536;
 // Bytes of a packet.
 pub const LEAST_BYTES: u32 = 1;
 
-pub const MOST_BYTES: u32 = 2048;
+pub const MOST_BYTES: u32 = 9000;
 
 // The parts that make a whole: the most that a share may be, and that the children of a row may have together.
 pub const WHOLE: u32 = 840;

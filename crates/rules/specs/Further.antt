@@ -90,6 +90,25 @@ waited =
           ∷ [];
     }
 
+-- the shortest and the longest packet that there can be, and two between. 9000 bytes cost class 20, with one part of 840, more ticks than 32 bits
+-- hold, and class 30 half as many: class 30's packet goes first, and class 20's next one starts far from the line's virtual time
+unfoldable pub lengths : Run
+lengths =
+    record {
+      lent =
+          lend (row 1 0 0 ∷ row 10 1 420 ∷ row 20 1 1 ∷ row 30 1 2 ∷ [])
+          (packet 10 1 ∷ packet 20 9000 ∷ packet 30 9000 ∷ packet 10 2048 ∷ packet 20 2049 ∷ finish ∷ finish ∷ finish ∷ finish ∷ []);
+      facts =
+          Answers 0 0 0 5
+          ∷ Order (0 ∷ 2 ∷ 3 ∷ 1 ∷ 4 ∷ replicate 5 7)
+          ∷ RowReport 0 (20049 ∷ 0 ∷ 0 ∷ 6352122000 ∷ 1 ∷ [])
+          ∷ RowReport 1 (2049 ∷ 1680 ∷ 3442320 ∷ 0 ∷ 0 ∷ [])
+          ∷ RowReport 2 (9000 ∷ 6350400840 ∷ 7796175240 ∷ 0 ∷ 1 ∷ [])
+          ∷ RowReport 3 (9000 ∷ 840 ∷ 3175200840 ∷ 0 ∷ 0 ∷ [])
+          ∷ Lags (pos 0 ∷ pos 0 ∷ negsuc 7539950 ∷ pos 0 ∷ pos 7 ∷ [])
+          ∷ [];
+    }
+
 -- a refusal after events that are none: every lent word stays
 unfoldable pub untouched : Run
 untouched =
@@ -105,4 +124,4 @@ untouched =
     }
 
 unfoldable pub runs : List Run
-runs = not-eligible ∷ behind ∷ inner ∷ head-counts ∷ waited ∷ untouched ∷ []
+runs = not-eligible ∷ behind ∷ inner ∷ head-counts ∷ waited ∷ lengths ∷ untouched ∷ []

@@ -206,7 +206,7 @@ p11 = record { lent = lend halves (finish ∷ []); facts = Answers 14 0 0 0 ∷ 
 
 -- P12: a packet too long
 unfoldable pub p12 : Run
-p12 = record { lent = lend halves (packet 10 2049 ∷ []); facts = Answers 13 0 0 0 ∷ [] }
+p12 = record { lent = lend halves (packet 10 9001 ∷ []); facts = Answers 13 0 0 0 ∷ [] }
 
 unfoldable pub runs : List Run
 runs = p1 ∷ p2 ∷ p3 ∷ p4 ∷ p5 ∷ p6 ∷ p7 ∷ p8 ∷ p9 ∷ p10 ∷ p11 ∷ p12 ∷ []

@@ -67,7 +67,7 @@ impl<'a> Counts<'a> {
     }
 }
 
-/// Byte counts are at most 65,536 * 2,048, so they always fit.
+/// Byte counts are at most MOST_EVENTS * MOST_BYTES, so they always fit, also times 840.
 fn signed(bytes: u64) -> i64 {
     i64::try_from(bytes).unwrap_or(i64::MAX)
 }

@@ -2,7 +2,8 @@
 
 use crate::table::Table;
 
-pub const MOST_BYTES: u32 = 2048;
+/// Bytes of the longest packet.
+pub const MOST_BYTES: u32 = 9000;
 
 pub enum Event {
     /// A packet of `length` bytes for the sending class in `row`.

@@ -4,7 +4,7 @@
 pub const WHOLE: u32 = 840;
 
 /// What a byte would cost a class with share 1, in ticks.
-const UNIT_COST: u32 = WHOLE * WHOLE;
+pub const UNIT_COST: u32 = WHOLE * WHOLE;
 
 pub fn is_allowed(share: u32) -> bool {
     (1..=WHOLE).contains(&share) && UNIT_COST.is_multiple_of(share)

@@ -77,6 +77,10 @@ fn lowest(above: u64, below: u64) -> (u64, u64) {
 #[cfg(test)]
 mod tests {
     use super::*;
+    use crate::events::MOST_BYTES;
+
+    /// Three of the longest packets.
+    const THREE: u64 = 3 * MOST_BYTES as u64;
 
     fn figure(numerator: u64, denominator: u64) -> Figure {
         Figure {
@@ -106,7 +110,7 @@ mod tests {
             Some(figure(u64::MAX, 1))
         );
         assert_eq!(figure(u64::MAX - 2, 1).step_up(3, 840), None);
-        assert_eq!(figure(u64::MAX, u64::MAX - 1).step_up(6144, 1), None);
+        assert_eq!(figure(u64::MAX, u64::MAX - 1).step_up(THREE, 1), None);
     }
 
     #[test]
@@ -129,7 +133,7 @@ mod tests {
 
     #[test]
     fn nothing_follows_a_figure_that_has_outgrown() {
-        let figures = climb(u32::MAX, 6144, &[1; 8]);
+        let figures = climb(u32::MAX, THREE, &[1; 8]);
         assert_eq!(figures.len(), 5);
         assert!(figures[3].is_some() && figures[4].is_none());
     }

@@ -2,7 +2,9 @@
 
 use std::collections::VecDeque;
 
+use crate::events::MOST_BYTES;
 use crate::inside::Choices;
+use crate::run::MOST_EVENTS;
 use crate::shares;
 use crate::table::Table;
 
@@ -15,9 +17,12 @@ pub struct Packet {
     pub length: u32,
 }
 
-/// Tags are in ticks. One step raises the largest tag of all by at most
-/// 2,048 * 705,600, and an event has at most 18 such steps, so after 65,536
-/// events every tag is far below the 64-bit limit.
+/// No tag is over this. A start is never over the largest tag before its event, so an event
+/// raises that by at most the charge for the longest packet under share 1. Such a charge may
+/// be over 32 bits; that the product is within 64 is seen when this is built.
+const _: u64 = MOST_EVENTS as u64 * MOST_BYTES as u64 * shares::UNIT_COST as u64;
+
+/// Tags are in ticks.
 #[derive(Clone, Default)]
 pub struct RowState {
     pub start: u64,

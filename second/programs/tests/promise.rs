@@ -55,21 +55,21 @@ class 3 (row 2)
 ";
 
 const OUTGROWN_SHEET: &str = "\
-own bytes 4294967295, largest packet 2048, three packets 6144
+own bytes 4294967295, largest packet 9000, three packets 27000
 
 class 4 (row 4)
   own bytes: 4294967295
-  class 4: (4294967295 + 6144) * 840 / 1 = 3607777688760
-  class 3: (3607777688760 + 6144) * 840 / 1 = 3030533263719360
-  class 2: (3030533263719360 + 6144) * 840 / 1 = 2545647941529423360
-  class 10: (2545647941529423360 + 6144) * 840 / 1 = outgrown
+  class 4: (4294967295 + 27000) * 840 / 1 = 3607795207800
+  class 3: (3607795207800 + 27000) * 840 / 1 = 3030547997232000
+  class 2: (3030547997232000 + 27000) * 840 / 1 = 2545660317697560000
+  class 10: (2545660317697560000 + 27000) * 840 / 1 = outgrown
   the line: no number, since the working outgrows 64 bits
 
 class 6 (row 6)
   own bytes: 4294967295
-  class 6: (4294967295 + 6144) * 840 / 840 = 4294973439
-  class 5: (4294973439 + 6144) * 840 / 800 = 90194571243/20
-  the line finishes at most 90194571243/20 bytes, rounded up 4509728563
+  class 6: (4294967295 + 27000) * 840 / 840 = 4294994295
+  class 5: (4294994295 + 27000) * 840 / 800 = 18039089439/4
+  the line finishes at most 18039089439/4 bytes, rounded up 4509772360
 ";
 
 const NOT_DIGITS: [&str; 9] = [
@@ -125,7 +125,7 @@ fn a_figure_that_outgrows_64_bits_ends_its_class_only() {
         (5, 1, 800),
         (6, 5, 840),
     ];
-    let said = sheet("outgrown", &rows, &["2048", "4294967295"]);
+    let said = sheet("outgrown", &rows, &["9000", "4294967295"]);
     assert_eq!(said, printed(OUTGROWN_SHEET));
 }
 
@@ -146,10 +146,20 @@ fn leading_zeros_are_read() {
 
 #[test]
 fn both_ends_of_largest_and_own_are_read() {
-    for (largest, own) in [("1", "0"), ("2048", "4294967295")] {
+    for (largest, own) in [("1", "0"), ("9000", "4294967295")] {
         let said = sheet("ends", &HALVES, &[largest, own]).output;
         let first = format!("own bytes {own}, largest packet {largest}, ");
         assert!(said.starts_with(&first));
+    }
+}
+
+/// A class with half of the line: one packet and three more, times two.
+#[test]
+fn a_largest_packet_of_each_length_is_worked() {
+    for (largest, line) in [(1, 8), (2048, 16384), (2049, 16392), (9000, 72000)] {
+        let said = sheet("each_largest", &HALVES, &[&largest.to_string()]).output;
+        let last = format!("  the line finishes at most {line} bytes\n");
+        assert!(said.ends_with(&last), "{said}");
     }
 }
 
@@ -173,8 +183,19 @@ fn a_largest_packet_that_is_not_digits_alone_is_named() {
 #[test]
 fn a_largest_packet_that_no_packet_has_is_named() {
     let long = "9".repeat(1000);
-    let sentence = "cannot read LARGEST: a packet has 1 to 2048 bytes";
-    for largest in ["0", "000", "2049", "4294967295", "4294967296", &long] {
+    let sentence = "cannot read LARGEST: a packet has 1 to 9000 bytes";
+    let wrong = [
+        "0",
+        "000",
+        "9001",
+        "09001",
+        "65536",
+        "74536",
+        "4294967295",
+        "4294967296",
+        &long,
+    ];
+    for largest in wrong {
         says("largest_range", &[largest], sentence);
     }
 }
@@ -202,7 +223,7 @@ fn arguments_are_looked_at_from_left_to_right_and_before_the_table() {
     let said = |arguments: [&str; 3]| promise(&arguments).output;
     let largest = "cannot read LARGEST: it is not a decimal number\n";
     assert_eq!(said([missing, "x", "x"]), largest);
-    let range = "cannot read LARGEST: a packet has 1 to 2048 bytes\n";
+    let range = "cannot read LARGEST: a packet has 1 to 9000 bytes\n";
     assert_eq!(said([missing, "0", "x"]), range);
     let own = "cannot read OWN: it is not a decimal number\n";
     assert_eq!(said([missing, "1", "x"]), own);

@@ -78,6 +78,18 @@ fn an_arrival_of_length_0_gives_13() {
 }
 
 #[test]
+fn an_arrival_gives_13_from_length_9001_on() {
+    for length in [9000, 8999, 8193, 8192, 4096] {
+        accepted(&HALVES, &[(20, 1), (10, length)]);
+    }
+    // The low 16 or 31 bits of some of these would be a length that is accepted.
+    let lengths = [9001, 9002, 16384, 65535, 65536, 65537, 74536, 1 << 31];
+    for length in lengths.into_iter().chain([(1 << 31) + 9000, u32::MAX]) {
+        assert_eq!(refused(&HALVES, &[(20, 1), (10, length)]), (13, 1, 0));
+    }
+}
+
+#[test]
 fn a_finish_with_a_length_gives_13() {
     assert_eq!(refused(&HALVES, &[(10, 1), (0, 1)]), (13, 1, 0));
 }
@@ -174,7 +186,7 @@ fn order_11_before_13() {
 
 #[test]
 fn order_12_before_13() {
-    assert_eq!(refused(&TWO_LEVELS, &[(2, 2049)]), (12, 0, 0));
+    assert_eq!(refused(&TWO_LEVELS, &[(2, 9001)]), (12, 0, 0));
 }
 
 #[test]

@@ -170,9 +170,9 @@ fn sentence_12_for_an_inner_class() {
 
 #[test]
 fn sentence_13_for_a_packet() {
-    let said = "refused 13: event 0 (line 2), for class 10, has length 2049; \
-                a packet has 1 to 2048 bytes.";
-    says("sentence_13", &HALVES, &[(10, 2049)], "13,0,0", said);
+    let said = "refused 13: event 0 (line 2), for class 10, has length 9001; \
+                a packet has 1 to 9000 bytes.";
+    says("sentence_13", &HALVES, &[(10, 9001)], "13,0,0", said);
 }
 
 #[test]

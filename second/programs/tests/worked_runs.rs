@@ -88,8 +88,8 @@ fn p11_finish_as_first_event() {
 }
 
 #[test]
-fn p12_length_2049() {
-    assert_eq!(refused(&HALVES, &[(10, 2049)]), (13, 0, 0));
+fn p12_length_9001() {
+    assert_eq!(refused(&HALVES, &[(10, 9001)]), (13, 0, 0));
 }
 
 #[test]
@@ -105,11 +105,31 @@ fn depth_9_is_refused() {
     assert_eq!(refused(&chain(9), &[]), (9, 9, 0));
 }
 
+/// A byte costs each class 1,680.
+/// Event 0: class 10 has S 0, F 1680; packet 0 goes; root V 840.
+/// Event 1: class 20 has S 840, F 840 + 2048 * 1680 = 3441480.
+/// Finish 1: class 10 has S 1680, F 1680 + 2049 * 1680 = 3444000; S is over V 840, so
+/// packet 1 goes; V 840 + 2048 * 840 = 1721160.
+/// Finish 2: class 20 has S 3441480, F 3441480 + 9000 * 1680 = 18561480; S is over V, so
+/// packet 2 goes; V 1721160 + 2049 * 840 = 3442320. Lags are looked at here: the line has
+/// finished 1 + 2048 bytes, class 10 has 420 * 2049 - 840 * 1, class 20 420 * 2049 - 840 * 2048.
+/// Finish 3: packet 3 goes; V 3442320 + 9000 * 840 = 11002320.
 #[test]
-fn lengths_1_and_2048_are_accepted() {
-    let outcome = accepted(&HALVES, &[(10, 1), (20, 2048), FINISH, FINISH]);
-    assert_eq!(outcome.order, [0, 1]);
-    assert_eq!(outcome.report[0], [2049, 0, 0, 1_721_160, 0]);
+fn lengths_1_2048_2049_and_9000_are_accepted() {
+    let mut events = vec![(10, 1), (20, 2048), (10, 2049), (20, 9000), FINISH, FINISH];
+    assert_eq!(accepted(&HALVES, &events).lags, [0, 859740, -859740]);
+    events.extend([FINISH, FINISH]);
+    let outcome = accepted(&HALVES, &events);
+    assert_eq!(outcome.order, [0, 1, 2, 3]);
+    assert_eq!(
+        outcome.report,
+        [
+            [13098, 0, 0, 11002320, 0],
+            [2050, 1680, 3444000, 0, 0],
+            [11048, 3441480, 18561480, 0, 0],
+        ]
+    );
+    assert_eq!(outcome.lags, [0, 0, 0]);
 }
 
 #[test]

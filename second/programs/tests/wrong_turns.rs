@@ -285,6 +285,39 @@ fn choices_that_the_place_decides_are_counted() {
     assert_eq!(choices(&DEEP_THIRDS, &DEEP_EVENTS), [14, 2, 1]);
 }
 
+/// A byte costs class 10 705,600, class 20 352,800 and class 30 1,680.
+/// Event 0: class 30 has S 0, F 1680; packet 0 goes; root V 840.
+/// Event 1: class 10 has S 840, F 840 + 9000 * 705600 = 6350400840.
+/// Event 2: class 20 has S 840, F 840 + 9000 * 352800 = 3175200840.
+/// Finish 1: packet 2 goes; V 840 + 9000 * 840 = 7560840. In 32 bits class 10's charge would
+/// be 2055432704, less than class 20's, and packet 1 would go.
+/// Finish 2: packet 1 goes; V 15120840.
+#[test]
+fn a_charge_over_32_bits_is_whole() {
+    let rows = [ROOT, (10, 1, 1), (20, 1, 2), (30, 1, 420)];
+    let events = [(30, 1), (10, 9000), (20, 9000), FINISH, FINISH, FINISH];
+    let outcome = accepted(&rows, &events);
+    assert_eq!(outcome.order, [0, 2, 1]);
+    assert_eq!(
+        outcome.report,
+        [
+            [18001, 0, 0, 15120840, 0],
+            [9000, 840, 6350400840, 0, 0],
+            [9000, 840, 3175200840, 0, 0],
+            [1, 0, 1680, 0, 0],
+        ]
+    );
+}
+
+/// 6,086 * 705,600 is the last charge under share 1 within 32 bits.
+#[test]
+fn charges_on_both_sides_of_32_bits_are_whole() {
+    for (length, finish) in [(6086, 4294281600), (6087, 4294987200)] {
+        let outcome = accepted(&[ROOT, (10, 1, 1)], &[(10, length)]);
+        assert_eq!(outcome.report[1][2], finish);
+    }
+}
+
 /// P4 cut after its first finish: class 4 is empty, but its parent still holds
 /// class 5's packet, so the parent's backlog goes on from event 0.
 #[test]

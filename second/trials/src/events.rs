@@ -6,6 +6,9 @@ use second::MOST_BYTES;
 
 use crate::{Event, Random, Row, FINISH};
 
+/// The lengths that the worked runs name as accepted, from the shortest to the longest.
+pub const EDGES: [u32; 4] = [1, 2048, 2049, MOST_BYTES];
+
 #[derive(Clone, Copy)]
 enum Manner {
     /// Some packets for one class, then some finishes.
@@ -31,8 +34,8 @@ enum Lengths {
     Multiples(u32),
     /// Each class has its own.
     OfClass,
-    /// The shortest and the longest.
-    Ends,
+    /// Any of `EDGES`.
+    Edges,
     Tiny,
     Short,
     Any,
@@ -84,8 +87,8 @@ pub fn random_events(rows: &[Row], most: usize, drains: bool, random: &mut Rando
 /// Rounds have packets of one length more often than not, so that tags are equal. Where
 /// they are not in the order of rows the lengths always are such that tags can be equal.
 fn random_lengths(manner: Manner, random: &mut Random) -> Lengths {
-    let same = Lengths::Same(random.pick(&[1, 64, 840, 1500, 2048]));
-    let multiples = Lengths::Multiples(random.pick(&[1, 64, 420, 682]));
+    let same = Lengths::Same(random.pick(&[1, 64, 840, 1500, 2048, 2049, MOST_BYTES]));
+    let multiples = Lengths::Multiples(random.pick(&[1, 64, 420, 683, MOST_BYTES / 3]));
     match manner {
         Manner::Rounds if random.one_in(2) => return same,
         Manner::Reversed | Manner::Shuffled => return random.pick(&[same, multiples]),
@@ -94,7 +97,7 @@ fn random_lengths(manner: Manner, random: &mut Random) -> Lengths {
     let kinds = [
         same,
         Lengths::OfClass,
-        Lengths::Ends,
+        Lengths::Edges,
         Lengths::Tiny,
         Lengths::Short,
         Lengths::Any,
@@ -185,9 +188,8 @@ impl Growing {
         let most = match self.lengths {
             Lengths::Same(length) => return length,
             Lengths::Multiples(unit) => return unit * random.between(1, 3) as u32,
-            // MOST_BYTES divides 2^32, so it does not matter that the product wraps.
-            Lengths::OfClass => return 1 + class.wrapping_mul(7) % MOST_BYTES,
-            Lengths::Ends => return random.pick(&[1, MOST_BYTES]),
+            Lengths::OfClass => return 1 + class % MOST_BYTES,
+            Lengths::Edges => return random.pick(&EDGES),
             Lengths::Tiny => 3,
             Lengths::Short => 64,
             Lengths::Any => MOST_BYTES,
@@ -266,11 +268,12 @@ mod tests {
     }
 
     #[test]
-    fn the_shortest_and_the_longest_packets_come_up() {
+    fn packets_of_all_edges_come_up() {
         let lengths: BTreeSet<u32> = cases(false)
             .flat_map(|case| case.events)
             .map(|event| event.length)
             .collect();
-        assert!(lengths.contains(&1) && lengths.last() == Some(&2048));
+        assert!(EDGES.iter().all(|edge| lengths.contains(edge)));
+        assert_eq!(lengths.last(), Some(&MOST_BYTES));
     }
 }

@@ -18,7 +18,7 @@ mod tables;
 pub use bench::{answer_name, folders, Bench, Both, Program, ANSWERS};
 pub use case::{Case, Event, Row, FINISH};
 pub use ending::counted;
-pub use events::{random_events, sending};
+pub use events::{random_events, sending, EDGES};
 pub use files::{lines, Files};
 pub use folder::Folder;
 pub use printed::{End, Printed};

@@ -4,7 +4,7 @@
 use std::collections::BTreeSet;
 
 use second::sheet::climb;
-use second::{inside, run, sentence, EventSlices, Room, TableSlices, REPORT_WIDTH};
+use second::{inside, run, sentence, EventSlices, Room, TableSlices, MOST_BYTES, REPORT_WIDTH};
 use trials::{random_events, random_table, Case, Event, Random, Row, FINISH, SHAPES};
 
 const LISTS: u64 = 3000;
@@ -298,6 +298,20 @@ fn lags_are_those_the_order_tells_and_never_over_the_bound() {
     });
 }
 
+#[test]
+fn tags_and_byte_counts_are_never_over_the_bound() {
+    each_list(|run| {
+        let (last, cut) = run.cut();
+        let results = accepted(&cut);
+        let bound = (last as u64 + 1) * run.largest();
+        for row in 0..run.case.rows.len() {
+            let part = reported(&results, row);
+            assert!(part[0] <= bound);
+            assert!(part[1..4].iter().all(|tag| *tag <= 705_600 * bound));
+        }
+    });
+}
+
 /// The most the whole line can have sent while this class waited, as a
 /// numerator and a denominator, from the class's own bytes.
 fn most_of_the_line(shares: &[u32], own: u32, three: u64) -> (u128, u128) {
@@ -355,7 +369,7 @@ fn more_own_bytes_give_no_smaller_number() {
         let rows = some_table(&mut random);
         let class = random.between(1, rows.len() - 1);
         let shares = shares(&rows, &paths(&rows)[class]);
-        let three = 3 * random.between(1, 2048) as u64;
+        let three = 3 * random.between(1, MOST_BYTES as usize) as u64;
         let less = random.word() >> random.below(32);
         let more = less.saturating_add(random.word() >> random.below(32));
         sheet_agrees(&shares, less, three);
@@ -416,7 +430,7 @@ fn careless_columns(random: &mut Random) -> [Vec<u32>; 5] {
         (rows, &[1, 2, 3, 4]),
         (rows, &[1, 2, 420, 840]),
         (events, &[0, 1, 2, 3, 4, 5]),
-        (events, &[0, 0, 1, 100, 2048]),
+        (events, &[0, 0, 1, 100, 2049, MOST_BYTES]),
     ];
     let mut columns = plausible.map(|(length, words)| careless_column(length, words, random));
     if !random.one_in(10) {

@@ -1,6 +1,6 @@
 //! Damages an accepted table or list so that it is refused with a given number.
 
-use second::{MOST_DEPTH, MOST_EVENTS, MOST_ROWS, WHOLE};
+use second::{MOST_BYTES, MOST_DEPTH, MOST_EVENTS, MOST_ROWS, WHOLE};
 use trials::{
     allowed_shares, fresh_identifier, greatest_share, sending, Case, Event, Random, Row, FINISH,
 };
@@ -197,15 +197,19 @@ fn not_sending(case: &mut Case, place: usize, random: &mut Random) {
 fn length(case: &mut Case, place: usize, random: &mut Random) {
     let event = arrival(case, place);
     let some = place % case.events.len();
-    match random.below(6) {
-        0 => case.events[event].length = 0,
-        1 => case.events[event].length = 2049,
-        2 => case.events[event].length = u32::MAX,
-        3 => case.events[event].length = random.between(2049, u32::MAX as usize) as u32,
+    let one_more = MOST_BYTES + 1;
+    let length = &mut case.events[event].length;
+    match random.below(10) {
+        0 => *length = 0,
+        1..=4 => *length = one_more,
+        5 => *length = u32::MAX,
+        6 => *length = random.between(one_more as usize, u32::MAX as usize) as u32,
+        // In 16, 24 or 31 bits it would still be accepted.
+        7 => *length += 1 << random.pick(&[16, 24, 31]),
         // A finish with a length.
-        4 => case.events[event].class = 0,
+        8 => case.events[event].class = 0,
         _ if case.events[some] == FINISH => case.events[some].length = 1,
-        _ => case.events[some].length += 2048,
+        _ => case.events[some].length += MOST_BYTES,
     }
 }
 

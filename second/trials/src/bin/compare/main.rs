@@ -2,6 +2,7 @@
 #![forbid(unsafe_code)]
 
 mod damage;
+mod edges;
 mod faults;
 mod plan;
 mod sheets;
@@ -15,7 +16,6 @@ use std::sync::atomic::{AtomicUsize, Ordering};
 use std::thread;
 
 use plan::trial;
-use second::Choices;
 use tally::Tally;
 use trials::{counted, difference, folders, Bench, Folder};
 
@@ -110,8 +110,9 @@ fn some_lists(
         };
         let trial = trial(settings.seed, list, settings.lists);
         tally.add(list, bench.run(&trial.files)?.agreed());
-        let inside = trial.accepted.and_then(|case| case.inside().ok());
-        tally.choices += inside.map_or(Choices::default(), |inside| inside.choices);
+        if let Some(case) = &trial.case {
+            tally.look_inside(case);
+        }
     }
 }
 

@@ -80,8 +80,8 @@ const ROUND: [Kind; 51] = [
 pub struct Trial {
     pub name: String,
     pub files: Files,
-    /// The same in numbers, for a run that is accepted.
-    pub accepted: Option<Case>,
+    /// The same in numbers, for a run over files that can be read.
+    pub case: Option<Case>,
 }
 
 /// The list with this number, of so many besides the one of full size, which is the last.
@@ -102,7 +102,7 @@ fn sheet(manner: Manner, random: &mut Random) -> Trial {
     Trial {
         name: format!("Sheet({manner:?})"),
         files: sheet_files(manner, random),
-        accepted: None,
+        case: None,
     }
 }
 
@@ -124,12 +124,8 @@ fn run(kind: Kind, number: usize, mut random: Random) -> Trial {
         put_in(&mut files, fault, &mut random);
         name = format!("{fault:?}");
     }
-    let accepted = matches!(kind, Accepted(_) | NoEvents | Kind::FullSize).then_some(case);
-    Trial {
-        name,
-        files,
-        accepted,
-    }
+    let case = (!matches!(kind, Faulty)).then_some(case);
+    Trial { name, files, case }
 }
 
 /// The faults take turns, one after another where lists with faults follow each other.

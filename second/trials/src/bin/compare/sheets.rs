@@ -5,8 +5,8 @@ use std::os::unix::ffi::OsStrExt;
 
 use crate::damage::damage;
 use crate::faults::{put_in, Fault, NOT_DIGITS, TOO_LARGE};
-use second::MOST_EVENTS;
-use trials::{allowed_shares, random_table, Case, Files, Random, Row, Shape, SHAPES};
+use second::{MOST_BYTES, MOST_EVENTS};
+use trials::{allowed_shares, random_table, Case, Files, Random, Row, Shape, EDGES, SHAPES};
 
 #[derive(Clone, Copy, Debug, PartialEq, Eq)]
 pub enum Manner {
@@ -74,8 +74,9 @@ fn steep_table(random: &mut Random) -> Vec<Row> {
 }
 
 fn largest(random: &mut Random) -> OsString {
-    let any = random.between(1, 2048);
-    zeroed(random.pick(&[1, 1500, 2048, any]).to_string(), random)
+    let any = random.between(1, MOST_BYTES as usize) as u32;
+    let edge = random.pick(&EDGES);
+    zeroed(random.pick(&[edge, edge, 1500, any]).to_string(), random)
 }
 
 fn own(random: &mut Random) -> OsString {
@@ -97,7 +98,10 @@ fn unread_arguments(random: &mut Random) -> Vec<OsString> {
     let unread: Vec<&[u8]> = NOT_DIGITS.into_iter().chain(TOO_LARGE).collect();
     let unread: Vec<&[u8]> = unread.into_iter().filter(|a| !a.contains(&0)).collect();
     let wrong = OsStr::from_bytes(random.pick(&unread)).to_os_string();
-    let range = OsString::from(random.pick(&["0", "00", "2049", "4294967295"]));
+    let one_more = (MOST_BYTES + 1).to_string();
+    // In 16 bits 65,537 would be 1.
+    let range = random.pick(&["0", &one_more, &one_more, "65537", "4294967295"]);
+    let range = OsString::from(range);
     match random.below(7) {
         0 => Vec::new(),
         1 => vec![largest(random), own(random), own(random)],
@@ -149,6 +153,16 @@ mod tests {
     }
 
     #[test]
+    fn each_edge_is_the_largest_packet_at_times() {
+        let plain = answers(Manner::Plain);
+        for edge in EDGES {
+            let named = format!(", largest packet {edge}, ");
+            let names = |a: &&Response| String::from_utf8_lossy(&a.output).contains(&named);
+            assert!(plain.iter().filter(names).count() > 20, "{edge}");
+        }
+    }
+
+    #[test]
     fn every_refusal_of_a_table_comes_up() {
         let refused = answers(Manner::Refused);
         assert_eq!(begin(&refused, "answer,"), 300);
@@ -164,5 +178,16 @@ mod tests {
         assert_eq!(begin(&wrong, "cannot read"), 300);
         let said: BTreeSet<_> = wrong.iter().map(|answer| &answer.output).collect();
         assert_eq!(said.len(), 5);
+    }
+
+    #[test]
+    fn the_largest_packet_is_a_byte_too_long_at_times() {
+        let beyond = OsString::from((MOST_BYTES + 1).to_string());
+        let first = |number| {
+            let files = sheet_files(Manner::Arguments, &mut Random::new(6, number));
+            files.sheet.and_then(|rest| rest.into_iter().next())
+        };
+        let found = (0..300).filter_map(first).filter(|first| *first == beyond);
+        assert!(found.count() > 20);
     }
 }

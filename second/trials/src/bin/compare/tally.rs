@@ -1,13 +1,14 @@
 //! Counts what came of the lists.
 
+use crate::edges::Edges;
 use second::Choices;
-use trials::{answer_name, ANSWERS};
+use trials::{answer_name, Case, ANSWERS};
 
 /// No text brings about answer 3: the programs lend slices that are long enough.
 const NEVER: usize = 3;
 
 /// How often each other answer is wanted among the lists of a default run.
-const WANTED: usize = 36;
+const WANTED: u64 = 36;
 
 /// How many choices the place is to decide in a default run, and how many of these are to
 /// take another row than the lowest.
@@ -16,9 +17,10 @@ const WANTED_NOT_LOWEST: u64 = 4000;
 
 #[derive(Default)]
 pub struct Tally {
-    counts: [usize; ANSWERS],
+    counts: [u64; ANSWERS],
     /// Those of the runs that are accepted.
-    pub choices: Choices,
+    choices: Choices,
+    edges: Edges,
     /// The lists on which the programs differ.
     pub differing: Vec<usize>,
 }
@@ -31,21 +33,33 @@ impl Tally {
         }
     }
 
+    /// Counts what the answer does not tell of a list.
+    pub fn look_inside(&mut self, case: &Case) {
+        match case.inside() {
+            Ok(inside) => {
+                self.choices += inside.choices;
+                self.edges.add_accepted(case);
+            }
+            Err(refusal) => self.edges.add_refused(case, refusal),
+        }
+    }
+
     pub fn join(&mut self, other: Tally) {
         for (count, more) in self.counts.iter_mut().zip(other.counts) {
             *count += more;
         }
         self.choices += other.choices;
+        self.edges += other.edges;
         self.differing.extend(other.differing);
     }
 
-    pub fn passed(&self) -> usize {
+    pub fn passed(&self) -> u64 {
         self.counts.iter().sum()
     }
 
-    /// A line for each answer, and one for the choices.
+    /// A line for each answer, one for the choices and one for the lengths.
     pub fn text(&self) -> String {
-        let line = |(answer, count): (usize, &usize)| format!("{}: {count}\n", answer_name(answer));
+        let line = |(answer, count): (usize, &u64)| format!("{}: {count}\n", answer_name(answer));
         let answers: String = self.counts.iter().enumerate().map(line).collect();
         let Choices {
             made,
@@ -54,73 +68,90 @@ impl Tally {
         } = self.choices;
         format!(
             "{answers}choices: {made}, decided by the place: {by_place}, \
-             of these not the lowest row: {not_lowest}\n"
+             of these not the lowest row: {not_lowest}\n{}",
+            self.edges.text()
         )
     }
 
-    /// Sentences on answers and choices that came up too seldom, or that must not come up.
+    /// Sentences on what came up too seldom, or must not come up.
     pub fn shortages(&self) -> Vec<String> {
-        let said = |(answer, count): (usize, &usize)| {
+        let said = |(answer, count): (usize, &u64)| {
             let name = answer_name(answer);
             match answer {
-                NEVER if *count > 0 => Some(format!("{name} must never come up")),
-                NEVER => None,
-                _ if *count < WANTED => Some(format!("{name} is wanted {WANTED} times at least")),
-                _ => None,
+                NEVER => (*count > 0).then(|| format!("{name} must never come up")),
+                _ => too_few(&name, *count, WANTED),
             }
         };
         let answers = self.counts.iter().enumerate().filter_map(said);
-        answers.chain(self.too_few_choices()).collect()
-    }
-
-    fn too_few_choices(&self) -> impl Iterator<Item = String> {
-        let too_few = |name: &str, count: u64, wanted: u64| {
-            (count < wanted).then(|| format!("a choice {name} is wanted {wanted} times at least"))
-        };
         let Choices {
             by_place,
             not_lowest,
             ..
         } = self.choices;
-        let said = [
-            too_few("decided by the place", by_place, WANTED_BY_PLACE),
-            too_few("not of the lowest row", not_lowest, WANTED_NOT_LOWEST),
+        let choices = [
+            too_few("a choice decided by the place", by_place, WANTED_BY_PLACE),
+            too_few(
+                "a choice not of the lowest row",
+                not_lowest,
+                WANTED_NOT_LOWEST,
+            ),
         ];
-        said.into_iter().flatten()
+        let choices = choices.into_iter().flatten();
+        answers
+            .chain(choices)
+            .chain(self.edges.shortages())
+            .collect()
     }
+}
+
+/// A sentence on what came up less often than it is wanted.
+pub fn too_few(name: &str, count: u64, wanted: u64) -> Option<String> {
+    (count < wanted).then(|| format!("{name} is wanted {wanted} times at least"))
 }
 
 #[cfg(test)]
 mod tests {
+    use second::MOST_BYTES;
+    use trials::{even_table, Event};
+
     use super::*;
 
     #[test]
     fn what_comes_up_too_seldom_is_named() {
         let mut tally = Tally::default();
         for answer in (0..ANSWERS).filter(|answer| *answer != NEVER) {
-            (0..WANTED).for_each(|list| tally.add(list, Some(answer)));
+            tally.counts[answer] = WANTED;
         }
-        assert_eq!(tally.shortages().len(), 2);
+        let of_edges = tally.edges.shortages();
+        assert_eq!(tally.shortages().len(), 2 + of_edges.len());
         tally.choices.by_place = WANTED_BY_PLACE;
         tally.choices.not_lowest = WANTED_NOT_LOWEST;
-        assert!(tally.shortages().is_empty());
+        assert_eq!(tally.shortages(), of_edges);
         tally.counts[9] -= 1;
         tally.counts[NEVER] += 1;
-        assert_eq!(tally.shortages().len(), 2);
+        assert_eq!(tally.shortages().len(), 2 + of_edges.len());
     }
 
     #[test]
     fn tallies_are_joined() {
+        let packet = |length| Case {
+            rows: even_table(&[2]),
+            events: vec![Event { class: 2, length }],
+        };
         let mut tally = Tally::default();
         tally.add(4, None);
+        tally.look_inside(&packet(MOST_BYTES));
         let mut other = Tally::default();
         other.add(1, Some(0));
         other.add(2, None);
-        tally.choices.made = 3;
-        other.choices.made = 4;
+        other.look_inside(&packet(1));
+        other.look_inside(&packet(MOST_BYTES + 1));
         tally.join(other);
-        assert_eq!(tally.choices.made, 7);
         assert_eq!(tally.passed(), 1);
         assert_eq!(tally.differing, [4, 2]);
+        let text = tally.text();
+        assert!(text.contains("choices: 2, "));
+        assert!(text.contains("packets: 2, of length 1: 1, "));
+        assert!(text.ends_with("refused for length 9001: 1\n"));
     }
 }

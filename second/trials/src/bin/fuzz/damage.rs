@@ -5,13 +5,15 @@ use trials::{lines, Random};
 /// Bytes that such files are made of, and some that they are not.
 const COMMON: &[u8] = b"0123456789012345678901234567890123456789,,,,,,\n\n\n\r \t-+x\0\xff";
 
-const NUMBERS: [&str; 14] = [
+const NUMBERS: [&str; 16] = [
     "0",
     "1",
     "840",
     "841",
     "2048",
     "2049",
+    "9000",
+    "9001",
     "65536",
     "705600",
     "2147483648",
@@ -106,7 +108,11 @@ fn number(bytes: &mut Vec<u8>, gentle: bool, random: &mut Random) {
     let end = start + digits(start).len();
     let new = match random.below(if gentle { 3 } else { 4 }) {
         0 => digits(random.pick(&places)),
-        1 => random.below(3000).to_string().into_bytes(),
+        1 => {
+            // Mostly numbers that may be a share or a length.
+            let limit = random.pick(&[1000, 3000, 10_000]);
+            random.below(limit).to_string().into_bytes()
+        }
         2 => random.word().to_string().into_bytes(),
         _ => random.pick(&NUMBERS).as_bytes().to_vec(),
     };

@@ -18,11 +18,13 @@ use trials::{answer_name, counted, difference, folders, Bench, Files, Folder, Ra
 const DEFAULT_SEED: u64 = 1;
 
 /// Where LARGEST and OWN begin before they are damaged.
-const SHEETS: [&[&[u8]]; 4] = [
+const SHEETS: [&[&[u8]]; 6] = [
     &[b"1500"],
     &[b"1500", b"6000"],
-    &[b"2048", b"4294967295"],
+    &[b"9000", b"4294967295"],
     &[b"1", b"0"],
+    &[b"2049"],
+    &[b"9001"],
 ];
 
 /// Bytes of an argument at most.

@@ -43,7 +43,7 @@ fn turned(round: &[Event]) -> Vec<Event> {
 }
 
 /// So many of these packets, over and over, then all are finished.
-fn finished(packets: &[Event], count: usize) -> Vec<Event> {
+pub fn finished(packets: &[Event], count: usize) -> Vec<Event> {
     let mut events: Vec<Event> = packets.iter().copied().cycle().take(count).collect();
     events.resize(2 * count, FINISH);
     events

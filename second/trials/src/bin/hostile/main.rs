@@ -3,6 +3,7 @@
 
 mod equal;
 mod form;
+mod long;
 mod plan;
 mod streams;
 mod texts;

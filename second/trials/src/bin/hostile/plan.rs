@@ -5,8 +5,9 @@ use std::fmt;
 use std::os::unix::ffi::OsStrExt;
 
 use crate::equal::equal_finishes;
+use crate::long::longest_packets;
 use crate::texts::{damaged, lengthened, Text};
-use trials::Program;
+use trials::{Case, Program};
 
 pub const TABLE: &str = "identifier,parent,share\n1,0,0\n2,1,420\n3,1,420\n4,2,420\n5,2,420\n";
 pub const EVENTS: &str = "class,length\n4,100\n3,100\n5,100\n0,0\n0,0\n4,1500\n";
@@ -53,7 +54,8 @@ pub fn trials() -> Vec<Trial> {
         all.extend(with_table(&name, input.clone()));
         all.push(with_events(&name, input));
     }
-    all.extend(with_equal_finishes());
+    all.extend(with_lists("equal finishes", equal_finishes()));
+    all.extend(with_lists("longest packets", longest_packets()));
     all.extend(numbers_of_arguments());
     all.extend(sheet_arguments());
     all
@@ -99,9 +101,9 @@ fn with_events(name: &str, events: Input) -> Trial {
     }
 }
 
-fn with_equal_finishes() -> impl Iterator<Item = Trial> {
-    equal_finishes().into_iter().map(|(name, case)| Trial {
-        name: format!("equal finishes: {name}"),
+fn with_lists(what: &str, lists: Vec<(String, Case)>) -> impl Iterator<Item = Trial> + '_ {
+    lists.into_iter().map(move |(name, case)| Trial {
+        name: format!("{what}: {name}"),
         program: Program::Replay,
         inputs: vec![bytes(&case.table_text()), bytes(&case.event_text())],
     })
@@ -163,7 +165,12 @@ fn values() -> Vec<OsString> {
         "2047",
         "2048",
         "2049",
+        "8999",
+        "9000",
+        "9001",
+        "09000",
         "65536",
+        "65537",
         "4294967295",
         "4294967296",
         "4294967297",
