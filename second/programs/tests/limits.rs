@@ -85,9 +85,9 @@ fn a_long_length_slice_gives_2() {
 fn full(rows: &[Row], events: &[Event]) -> Outcome {
     assert_eq!(events.len(), 65_536);
     let outcome = accepted(rows, events);
-    for [bytes, tags @ .., held] in &outcome.report {
+    for [bytes, tags @ .., _] in &outcome.report {
         assert!(tags.iter().all(|tag| *tag <= 65_536 * CHARGE));
-        assert!(*bytes <= 65_536 * 9_000 && *held <= 65_536);
+        assert!(*bytes <= 65_536 * 9_000);
     }
     assert!(outcome.lags.iter().all(|lag| *lag <= 2_520 * 9_000));
     outcome
@@ -116,7 +116,8 @@ fn events_65536_that_all_wait_are_accepted() {
     assert_eq!(outcome.lags, [0, 0, 0]);
 }
 
-/// Each packet costs its class and every row above it one greatest charge. Of the last one
+/// Each packet costs its class and the rows above it one greatest charge, but for the root,
+/// which is charged nothing. Of the last one
 /// the start is 32,767 charges, and a row above goes 9,000 * 840 beyond that.
 #[test]
 fn events_65536_that_all_go_out_are_accepted() {
@@ -157,7 +158,8 @@ fn a_class_may_be_behind_by_its_share_of_the_longest_packet() {
 }
 
 /// Rounds over 255 classes, to which a packet costs 9,000 * 235,200. The first class starts at
-/// 0, the others when its packet is on the line; 128 of them have 129 packets, the rest 128.
+/// 0, the others when its packet is on the line. The first 128 classes have 129 packets, the
+/// rest 128.
 #[test]
 fn rounds_of_the_longest_packets_over_255_classes_are_accepted() {
     let classes = (1001..1256).cycle().take(32_768);

@@ -186,7 +186,7 @@ fn order_11_before_13() {
 
 #[test]
 fn order_12_before_13() {
-    assert_eq!(refused(&TWO_LEVELS, &[(2, 9001)]), (12, 0, 0));
+    assert_eq!(refused(&TWO_LEVELS, &[(2, u32::MAX)]), (12, 0, 0));
 }
 
 #[test]
@@ -201,5 +201,5 @@ fn order_an_earlier_events_14_before_a_later_events_11() {
 
 #[test]
 fn order_an_earlier_events_13_before_a_later_events_12() {
-    assert_eq!(refused(&HALVES, &[(10, 9999), (1, 1)]), (13, 0, 0));
+    assert_eq!(refused(&HALVES, &[(10, u32::MAX), (1, 1)]), (13, 0, 0));
 }

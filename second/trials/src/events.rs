@@ -32,7 +32,7 @@ enum Lengths {
     Same(u32),
     /// Once, twice or three times this.
     Multiples(u32),
-    /// Each class has its own.
+    /// One that goes with the class.
     OfClass,
     /// Any of `EDGES`.
     Edges,
@@ -188,7 +188,8 @@ impl Growing {
         let most = match self.lengths {
             Lengths::Same(length) => return length,
             Lengths::Multiples(unit) => return unit * random.between(1, 3) as u32,
-            Lengths::OfClass => return 1 + class % MOST_BYTES,
+            // Spread over all lengths, for identifiers that are counted up as well.
+            Lengths::OfClass => return 1 + class.wrapping_mul(7919) % MOST_BYTES,
             Lengths::Edges => return random.pick(&EDGES),
             Lengths::Tiny => 3,
             Lengths::Short => 64,

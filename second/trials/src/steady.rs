@@ -1,5 +1,7 @@
 //! Lists for timing: even tables whose classes mostly have packets waiting.
 
+use second::MOST_BYTES;
+
 use crate::{even_table, sending, Case, Event, Random, FINISH};
 
 /// Packets that wait for each class from the beginning.
@@ -20,7 +22,7 @@ pub fn steady_case(fans: &[usize], events: usize) -> Case {
             true => classes[place % classes.len()],
             false => random.pick(&classes),
         };
-        let length = random.between(64, 1500) as u32;
+        let length = random.between(64, MOST_BYTES as usize) as u32;
         Event { class, length }
     };
     let events = (0..events).map(event).collect();

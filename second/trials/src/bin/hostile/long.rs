@@ -1,4 +1,4 @@
-//! Lists of the longest packets at the limits, where tags, byte counts and lags are greatest.
+//! Lists of the longest packets at the limits, where tags, byte counts and lags are great.
 
 use crate::equal::finished;
 use second::{MOST_BYTES, MOST_DEPTH, MOST_EVENTS};
@@ -132,7 +132,7 @@ mod tests {
     }
 
     #[test]
-    fn tags_and_byte_counts_are_as_great_as_they_become() {
+    fn tags_and_byte_counts_are_great() {
         for name in ["steep, in turn", "steep, then finished"] {
             let (answer, room) = results(name);
             assert_eq!((answer.number, answer.count as usize), (0, HALF));
@@ -143,14 +143,14 @@ mod tests {
     }
 
     #[test]
-    fn packets_held_and_lags_are_as_great_as_they_become() {
+    fn packets_held_and_lags_are_great() {
         let longest = i64::from(MOST_BYTES);
         let (_, room) = results("steep, all held");
         assert_eq!(column(&room, 4), [MOST_EVENTS as u64; MOST_DEPTH + 1]);
         let (_, room) = results("steep, far ahead");
         let lag = (1 - 840) * (HALF as i64 - 1) * longest;
         assert_eq!(room.lags[1..], [lag; MOST_DEPTH]);
-        // Of each class half of the packets are finished, but for class 2's last two.
+        // All packets of class 3 are finished, and all but two of class 2.
         let (_, room) = results("long against short, ahead");
         let short = HALF as i64 / 2;
         assert_eq!(room.lags, [0, short - 839 * (short - 1) * longest, 0]);

@@ -149,43 +149,45 @@ fn numbers_of_arguments() -> Vec<Trial> {
     all
 }
 
+/// Short words that LARGEST and OWN may be given as.
+const SHORT: [&str; 32] = [
+    "",
+    "-1",
+    "+1",
+    " 1",
+    "1 ",
+    "\t1",
+    "1\n",
+    "0",
+    "00",
+    "1",
+    "2047",
+    "2048",
+    "2049",
+    "8999",
+    "9000",
+    "9001",
+    "09000",
+    "65536",
+    "65537",
+    "4294967295",
+    "4294967296",
+    "4294967297",
+    "18446744073709551615",
+    "18446744073709551616",
+    "18446744073709551617",
+    "0x10",
+    "1e3",
+    "1.5",
+    "1,5",
+    "x",
+    "1x",
+    "--help",
+];
+
 /// What LARGEST and OWN may be given as.
 fn values() -> Vec<OsString> {
-    let short = [
-        "",
-        "-1",
-        "+1",
-        " 1",
-        "1 ",
-        "\t1",
-        "1\n",
-        "0",
-        "00",
-        "1",
-        "2047",
-        "2048",
-        "2049",
-        "8999",
-        "9000",
-        "9001",
-        "09000",
-        "65536",
-        "65537",
-        "4294967295",
-        "4294967296",
-        "4294967297",
-        "18446744073709551615",
-        "18446744073709551616",
-        "18446744073709551617",
-        "0x10",
-        "1e3",
-        "1.5",
-        "1,5",
-        "x",
-        "1x",
-        "--help",
-    ];
-    let mut values: Vec<OsString> = short.into_iter().map(OsString::from).collect();
+    let mut values: Vec<OsString> = SHORT.into_iter().map(OsString::from).collect();
     for count in [1000, 100_000] {
         let zeros = "0".repeat(count);
         values.push("9".repeat(count).into());
