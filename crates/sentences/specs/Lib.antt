@@ -1,3 +1,2 @@
 -- What a sentence names. A reader must believe these definitions; nothing here is code.
-pub mod Nearest
 pub mod Named

@@ -1,7 +1,6 @@
 // What is said of an answer: its four numbers, and a refusal as one sentence for a person.
 mod answers;
 mod names;
-mod nearest;
 mod refusals;
 
 pub use answers::put_answer;

@@ -7,8 +7,6 @@ use crate::HELD_ROWS;
 use crate::names::put_class;
 use crate::names::put_event;
 use crate::names::put_row;
-use crate::nearest::above;
-use crate::nearest::below;
 use input::Answer;
 use input::LEAST_BYTES;
 use input::LEAST_ROWS;
@@ -22,6 +20,8 @@ use output::put_byte;
 use output::put_named;
 use output::put_number;
 use output::put_text;
+use shares::above;
+use shares::below;
 use words::word;
 
 // A refusal of a run.

@@ -1,118 +1,45 @@
-// Shares: which are allowed, and what bytes cost under one.
+// Shares: which are allowed, which are nearest to one that is not, and what bytes cost under one.
+mod nearest;
+
+ghost use Rattle.shares.specs.Marking.{Marks};
 ghost use Rattle.shares.specs.Stated.{Allows, Costs, Charges};
 use input::SCALE;
-
-// The allowed shares, ascending.
-const SHARES: [u32; 95] = [
-    1,
-    2,
-    3,
-    4,
-    5,
-    6,
-    7,
-    8,
-    9,
-    10,
-    12,
-    14,
-    15,
-    16,
-    18,
-    20,
-    21,
-    24,
-    25,
-    28,
-    30,
-    32,
-    35,
-    36,
-    40,
-    42,
-    45,
-    48,
-    49,
-    50,
-    56,
-    60,
-    63,
-    64,
-    70,
-    72,
-    75,
-    80,
-    84,
-    90,
-    96,
-    98,
-    100,
-    105,
-    112,
-    120,
-    126,
-    140,
-    144,
-    147,
-    150,
-    160,
-    168,
-    175,
-    180,
-    192,
-    196,
-    200,
-    210,
-    224,
-    225,
-    240,
-    245,
-    252,
-    280,
-    288,
-    294,
-    300,
-    315,
-    320,
-    336,
-    350,
-    360,
-    392,
-    400,
-    420,
-    441,
-    448,
-    450,
-    480,
-    490,
-    504,
-    525,
-    560,
-    576,
-    588,
-    600,
-    630,
-    672,
-    700,
-    720,
-    735,
-    784,
-    800,
-    840,
-];
+use input::WHOLE;
+pub use nearest::above;
+pub use nearest::below;
 
 // Whether a class may have this share.
 pub fn allowed(share: u32) -> bool
     ensures { λ r. ⌜ Allows share r ⌝ }
 {
-    let mut i = 0;
-    while i < 95 {
-        if SHARES[i] == share {
-            return true;
-        }
-        i += 1;
+    if WHOLE < share {
+        return false;
     }
-    false
+    (marks(share / 64) >> (share % 64)) % 2 == 1
+}
+
+// A word for each 64 shares, a bit for each share from the lowest up, 1 where it is allowed. An array's constant would be written to
+// the stack anew at every look; the compiler keeps these words in one place.
+fn marks(block: u32) -> u64
+    ensures { λ word. ⌜ Marks block word ⌝ }
+{
+    match block {
+        0 => 0x910725195335d7fe,
+        1 => 0x4101021504110941,
+        2 => 0x0010810100491000,
+        3 => 0x1021000300040111,
+        4 => 0x0800104101000000,
+        5 => 0x0000010040010001,
+        6 => 0x0200001000010100,
+        7 => 0x0100040100000005,
+        8 => 0x0001000000002000,
+        9 => 0x0040000001001001,
+        10 => 0x1000000100000000,
+        11 => 0x0000000080010000,
+        12 => 0x0000000100010000,
+        13 => 0x0000000000000100,
+        _ => 0,
+    }
 }
 
 // Ticks that a byte costs a class with this share; a share of 0 is never charged, and costs nothing.

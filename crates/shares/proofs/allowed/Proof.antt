@@ -1,52 +1,30 @@
--- `shares::allowed` meets its contract: the loop has passed only entries that are not the share.
+-- `shares::allowed` meets its contract: a share's bit is in the word of its 64.
 -- Assumes nothing.
-use Prim.Native.Nat.{ℕ, _+_, _≤_, _<_, _-_}
+use Prim.Native.Nat.{ℕ, _+_, _*_, _/_, _%_, _<_}
 use mathlib.Core.Path.{_≡_, sym}
-use mathlib.Core.Logic.{_≢_}
-use native.Mathlib.Decide.{ℕ-discrete}
 use native.Mathlib.Omega.{arith}
-use lib.ListN.{getD}
 use borrow.Author.Needs.{needs}
-use Rattle.input.specs.Shares.{share-table}
-use Rattle.shares.proofs.Entries.{entry-allowed, no-entry-refused}
+use Rattle.shares.proofs.Beyond.{too-much}
 use Rattle.shares.proofs.allowed.Statement.{statement}
 use Rattle.shares.proofs.allowed.Tie as tie
 
-abbrev Inv-loop : tie.InvT-loop
-Inv-loop share i₀ i = (i ≤ 95) × ((j : ℕ) → j < i → getD share-table j 0 ≢ share)
+returns : tie.Need-returns
+returns c = sym (too-much (c .before .args .share) (c .if1 .taken))
 
-abbrev μ-loop : tie.MeasureT-loop
-μ-loop share i₀ i = 95 - i
+marks-requires : tie.Need-marks-requires
+marks-requires c κs = search needs
 
-loop-holds : tie.Need-loop-holds Inv-loop μ-loop
-loop-holds c = (omega arith, λ j below same. omega arith)
+cast-result : tie.Need-cast-result
+cast-result c = search needs
 
-mul-if1 : tie.Need-mul-if1 Inv-loop μ-loop
-mul-if1 c = search needs
+shr-result : tie.Need-shr-result
+shr-result c = search needs
 
-array-read-if1 : tie.Need-array-read-if1 Inv-loop μ-loop
-array-read-if1 c = search needs
-
-returns : tie.Need-returns Inv-loop μ-loop
-unfolding share-table
-returns c = rw (← c .if1 .taken) (sym (entry-allowed (c .before .before .loop .i) (omega arith)))
-
-add-i : tie.Need-add-i Inv-loop μ-loop
-add-i c = search needs
-
-loop-less : tie.Need-loop-less Inv-loop μ-loop
-loop-less c = search needs
-
-loop-again : tie.Need-loop-again Inv-loop μ-loop
-unfolding share-table
-loop-again c = (omega arith, λ j below. go j below (ℕ-discrete j (c .before .before .loop .i)))
-  where
-    go : (j : ℕ) → j < c .before .before .loop .i + 1 → Dec (j ≡ c .before .before .loop .i) → getD share-table j 0 ≢ c .before .before .before .args .share
-    go j below (yes e) = rw e (c .if1 .left)
-    go j below (no other) = c .before .before .loop .inv .1 j (omega arith)
-
-returns-2 : tie.Need-returns-2 Inv-loop μ-loop
-returns-2 c = sym (no-entry-refused (c .before .before .args .share) (λ i inside. c .before .loop .inv .1 i (omega arith)))
+returns-2 : tie.Need-returns-2
+returns-2 c =
+    let share = c .before .before .args .share in
+    let itself : 64 * (share / 64) + share % 64 ≡ share = omega arith in
+    rw itself at (c .marks .ensures .each (share % 64) (omega arith))
 
 pub allowed-spec : {M : Type 1} → statement M
-allowed-spec = tie.close (tie.spec Inv-loop μ-loop loop-holds mul-if1 array-read-if1 returns add-i loop-less loop-again returns-2)
+allowed-spec = tie.close (tie.spec returns marks-requires cast-result shr-result returns-2)

@@ -1,2 +1,0 @@
--- The allowed shares around a number.
-pub mod Around
