@@ -1,8 +1,8 @@
--- Small class tables and lengths of packets, and what the definitions refuse of them.
+-- Small class tables, shares and lengths of packets, and what the definitions refuse of them.
 -- Assumes nothing.
 use Prim.Native.Nat.{ℕ}
 use mathlib.Core.Path.{_≡_, refl}
-use mathlib.Core.Bool.{true}
+use mathlib.Core.Bool.{true, false}
 use mathlib.Core.List.{List, [], _∷_, map}
 use Rattle.input.specs.Shares.{allowed}
 use Rattle.input.specs.Classes.{Table, place-of, earlier, parent-of, zeros, with-row, read, tree-of, child, children-share}
@@ -30,6 +30,16 @@ pub refused :
 unfolding tables allowed place-of earlier parent-of zeros with-row read tree-of child children-share nothing given or-else first
     first-below doubled root-refused class-refused row-refused shares-refused table-refused
 refused = refl
+
+-- the edges, shares beside allowed ones, and past the whole one that divides the scale
+pub shares : List ℕ
+shares = 0 ∷ 1 ∷ 10 ∷ 11 ∷ 12 ∷ 756 ∷ 800 ∷ 839 ∷ 840 ∷ 841 ∷ 882 ∷ 4294967295 ∷ []
+
+pub shares-allowed :
+    map allowed shares
+    ≡ false ∷ true ∷ true ∷ false ∷ true ∷ false ∷ true ∷ false ∷ true ∷ false ∷ false ∷ false ∷ []
+unfolding shares allowed
+shares-allowed = refl
 
 -- the edges, and two lengths between
 pub lengths : List ℕ

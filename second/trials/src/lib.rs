@@ -14,6 +14,7 @@ mod show;
 mod shrink;
 mod steady;
 mod tables;
+mod times;
 
 pub use bench::{answer_name, folders, Bench, Both, Program, ANSWERS};
 pub use case::{Case, Event, Row, FINISH};
@@ -28,3 +29,4 @@ pub use steady::steady_case;
 pub use tables::{
     allowed_shares, even_table, fresh_identifier, greatest_share, random_table, Shape, SHAPES,
 };
+pub use times::Times;

@@ -116,12 +116,26 @@ fn parent(case: &mut Case, place: usize, random: &mut Random) {
     };
 }
 
+/// Beside those below the whole: what else divides 705,600, and numbers that are an allowed
+/// share in their low bits.
+const NEAR_AND_FAR: [u32; 9] = [
+    0,
+    WHOLE + 1,
+    882,
+    2 * WHOLE,
+    WHOLE + (1 << 10),
+    WHOLE + (1 << 16),
+    WHOLE * WHOLE,
+    1 + (1 << 31),
+    u32::MAX,
+];
+
 fn share(case: &mut Case, place: usize, random: &mut Random) {
     let row = class_row(case, place);
     let allowed = allowed_shares();
     let others: Vec<u32> = (0..=WHOLE).filter(|s| !allowed.contains(s)).collect();
     case.rows[row].share = match random.below(4) {
-        0 => random.pick(&[0, WHOLE + 1, 2 * WHOLE, WHOLE * WHOLE, u32::MAX]),
+        0 => random.pick(&NEAR_AND_FAR),
         1 => random.between(WHOLE as usize + 1, u32::MAX as usize) as u32,
         _ => random.pick(&others),
     };

@@ -5,6 +5,7 @@ mod equal;
 mod form;
 mod long;
 mod plan;
+mod shares;
 mod streams;
 mod texts;
 

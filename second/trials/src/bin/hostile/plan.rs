@@ -6,6 +6,7 @@ use std::os::unix::ffi::OsStrExt;
 
 use crate::equal::equal_finishes;
 use crate::long::longest_packets;
+use crate::shares::all_shares;
 use crate::texts::{damaged, lengthened, Text};
 use trials::{Case, Program};
 
@@ -56,6 +57,7 @@ pub fn trials() -> Vec<Trial> {
     }
     all.extend(with_lists("equal finishes", equal_finishes()));
     all.extend(with_lists("longest packets", longest_packets()));
+    all.extend(with_lists("share", all_shares()));
     all.extend(numbers_of_arguments());
     all.extend(sheet_arguments());
     all

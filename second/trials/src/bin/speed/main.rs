@@ -11,8 +11,8 @@ use std::path::PathBuf;
 use std::process::ExitCode;
 
 use inputs::{Input, Part};
-use timing::{times, Times};
-use trials::{folders, Bench, Folder};
+use timing::times;
+use trials::{folders, Bench, Folder, Times};
 
 /// Measured runs of each program over each list.
 const DEFAULT_RUNS: usize = 9;

@@ -1,0 +1,77 @@
+//! What the ways are asked: shares, and tables of 255 classes.
+
+use second::WHOLE;
+use trials::{allowed_shares, even_table, Random, Row};
+
+/// How many shares a slice has, but for those that all have one after the other.
+const SHARES: usize = 4096;
+
+/// Shares, and what they are.
+pub fn shares() -> [(&'static str, Vec<u32>); 5] {
+    let mut random = Random::new(840, 0);
+    let allowed = allowed_shares();
+    let mut shuffled: Vec<u32> = (0..=WHOLE).cycle().take(SHARES).collect();
+    for place in (1..shuffled.len()).rev() {
+        shuffled.swap(place, random.below(place + 1));
+    }
+    let mut times = |share: &mut dyn FnMut(&mut Random) -> u32| {
+        (0..SHARES)
+            .map(|_| share(&mut random))
+            .collect::<Vec<u32>>()
+    };
+    [
+        ("0 to 840, ascending", (0..=WHOLE).collect()),
+        ("0 to 840, in any order", shuffled),
+        ("allowed ones", times(&mut |random| random.pick(&allowed))),
+        (
+            "above 840",
+            times(&mut |random| random.between(WHOLE as usize + 1, u32::MAX as usize) as u32),
+        ),
+        ("4,294,967,295", vec![u32::MAX; SHARES]),
+    ]
+}
+
+/// Tables of 255 classes, and what they are.
+pub fn tables() -> [(&'static str, Vec<Row>); 3] {
+    let mut refused = even_table(&[255]);
+    refused[1..].iter_mut().for_each(|row| row.share = 756);
+    [
+        ("flat, share 3 each", even_table(&[255])),
+        ("32 chains, share 840 below their first", chains()),
+        ("flat, share 756 each, refused", refused),
+    ]
+}
+
+/// The root with 32 classes of share 25, and below each but the last a chain of seven more, below
+/// the last one of six, each the only child of the one above it.
+fn chains() -> Vec<Row> {
+    let row = |identifier, parent, share| Row {
+        identifier,
+        parent,
+        share,
+    };
+    let class = |place: u32| match place % 8 {
+        0 => row(place + 2, 1, 25),
+        _ => row(place + 2, place + 1, WHOLE),
+    };
+    [row(1, 0, 0)]
+        .into_iter()
+        .chain((0..255).map(class))
+        .collect()
+}
+
+#[cfg(test)]
+mod tests {
+    use super::*;
+    use trials::Case;
+
+    #[test]
+    fn tables_have_255_classes_and_the_last_alone_is_refused() {
+        let answers = tables().map(|(_, rows)| {
+            assert_eq!(rows.len(), 256);
+            let events = Vec::new();
+            Case { rows, events }.answer().number
+        });
+        assert_eq!(answers, [0, 0, 8]);
+    }
+}

@@ -1,0 +1,99 @@
+//! The ways to test a share: proved libraries that are linked, and plain Rust.
+#![allow(unsafe_code)]
+
+use second::is_allowed;
+use trials::Row;
+
+type Allowed = unsafe extern "C" fn(u32) -> bool;
+type Odd = unsafe extern "C" fn(*const u32, usize) -> bool;
+type Refused = unsafe extern "C" fn(*const u32, usize, *const u32, usize, *const u32, usize) -> u32;
+
+/// The functions of one library. They ask nothing of their arguments but that a pointer and
+/// the number after it are a slice's.
+pub struct Way {
+    pub name: &'static str,
+    allowed: Allowed,
+    odd: Odd,
+    refused: Refused,
+}
+
+macro_rules! way {
+    ($name:literal, $library:literal, $allowed:ident, $odd:ident, $refused:ident) => {{
+        #[link(name = $library, kind = "static")]
+        extern "C" {
+            fn $allowed(share: u32) -> bool;
+            fn $odd(shares: *const u32, count: usize) -> bool;
+            fn $refused(
+                identifiers: *const u32,
+                rows: usize,
+                parents: *const u32,
+                parents_count: usize,
+                shares: *const u32,
+                shares_count: usize,
+            ) -> u32;
+        }
+        Way {
+            name: $name,
+            allowed: $allowed,
+            odd: $odd,
+            refused: $refused,
+        }
+    }};
+}
+
+/// The walk first, the test as it stands last.
+#[rustfmt::skip]
+pub fn ways() -> [Way; 4] {
+    [
+        way!("walk", "way_walk", way_walk_allowed, way_walk_odd, way_walk_refused),
+        way!("remainder", "way_remainder", way_remainder_allowed, way_remainder_odd, way_remainder_refused),
+        way!("array", "way_array", way_array_allowed, way_array_odd, way_array_refused),
+        way!("as it stands", "way_marks", way_marks_allowed, way_marks_odd, way_marks_refused),
+    ]
+}
+
+impl Way {
+    pub fn allowed(&self, share: u32) -> bool {
+        unsafe { (self.allowed)(share) }
+    }
+
+    /// Whether an odd number of these shares is allowed.
+    pub fn odd(&self, shares: &[u32]) -> bool {
+        unsafe { (self.odd)(shares.as_ptr(), shares.len()) }
+    }
+
+    /// The number of what refuses the table, 0 where nothing does.
+    pub fn refused(&self, table: &Columns) -> u32 {
+        let [identifiers, parents, shares] = &table.0;
+        unsafe {
+            (self.refused)(
+                identifiers.as_ptr(),
+                identifiers.len(),
+                parents.as_ptr(),
+                parents.len(),
+                shares.as_ptr(),
+                shares.len(),
+            )
+        }
+    }
+}
+
+/// What `Way::odd` is in plain Rust.
+#[inline(never)]
+pub fn plain_odd(shares: &[u32]) -> bool {
+    shares.iter().fold(false, |odd, s| odd != is_allowed(*s))
+}
+
+/// A table as three slices: identifiers, parents, shares.
+pub struct Columns([Vec<u32>; 3]);
+
+impl Columns {
+    pub fn of(rows: &[Row]) -> Columns {
+        let column = |of: fn(&Row) -> u32| rows.iter().map(of).collect();
+        Columns([
+            column(|r| r.identifier),
+            column(|r| r.parent),
+            column(|r| r.share),
+        ])
+    }
+}
