@@ -29,18 +29,18 @@ computed : T (chained 0 share-table)
 unfolding chained share-table greatest-below least-above least-of allowed
 computed = tt
 
+links : (before x : ℕ) (xs : List ℕ) → T (chained before (x ∷ xs)) → (greatest-below x ≡ before) × (least-above before ≡ x) × T (chained x xs)
+unfolding chained
+links before x xs t =
+    let down = and-yes (eqb (greatest-below x) before) (eqb (least-above before) x && chained x xs) t in
+    let up = and-yes (eqb (least-above before) x) (chained x xs) (down .1) in
+    (eqb→eq (greatest-below x) before (down .0), eqb→eq (least-above before) x (up .0), up .1)
+
 chained-at : (before : ℕ) (xs : List ℕ) → T (chained before xs) → (i : ℕ) → i < length xs
     → (greatest-below (getD xs i 0) ≡ getD (before ∷ xs) i 0) × (least-above (getD (before ∷ xs) i 0) ≡ getD xs i 0)
-unfolding chained
 chained-at before [] t i inside = absurd (omega arith)
-chained-at before (x ∷ xs) t zero inside =
-    let parts = and-yes (eqb (greatest-below x) before) (eqb (least-above before) x && chained x xs) t in
-    let more = and-yes (eqb (least-above before) x) (chained x xs) (parts .1) in
-    (eqb→eq (greatest-below x) before (parts .0), eqb→eq (least-above before) x (more .0))
-chained-at before (x ∷ xs) t (suc i) inside =
-    let parts = and-yes (eqb (greatest-below x) before) (eqb (least-above before) x && chained x xs) t in
-    let more = and-yes (eqb (least-above before) x) (chained x xs) (parts .1) in
-    chained-at x xs (more .1) i (omega arith)
+chained-at before (x ∷ xs) t zero inside = let link = links before x xs t in (link .0, link .1)
+chained-at before (x ∷ xs) t (suc i) inside = chained-at x xs (links before x xs t .2) i (omega arith)
 
 neighbours : (i : ℕ) → i < 95
     → (greatest-below (getD share-table i 0) ≡ getD (0 ∷ share-table) i 0) × (least-above (getD (0 ∷ share-table) i 0) ≡ getD share-table i 0)
