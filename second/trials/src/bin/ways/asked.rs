@@ -1,7 +1,7 @@
 //! What the ways are asked: shares, and tables of 255 classes.
 
 use second::WHOLE;
-use trials::{allowed_shares, even_table, Random, Row};
+use trials::{allowed_shares, even_table, Case, Random, Row};
 
 /// How many shares a slice has, but for those that all have one after the other.
 const SHARES: usize = 4096;
@@ -42,6 +42,12 @@ pub fn tables() -> [(&'static str, Vec<Row>); 3] {
     ]
 }
 
+/// What refuses such a table.
+pub fn answer(rows: Vec<Row>) -> u32 {
+    let events = Vec::new();
+    Case { rows, events }.answer().number
+}
+
 /// The root with 32 classes of share 25, and below each but the last a chain of seven more, below
 /// the last one of six, each the only child of the one above it.
 fn chains() -> Vec<Row> {
@@ -63,14 +69,12 @@ fn chains() -> Vec<Row> {
 #[cfg(test)]
 mod tests {
     use super::*;
-    use trials::Case;
 
     #[test]
     fn tables_have_255_classes_and_the_last_alone_is_refused() {
         let answers = tables().map(|(_, rows)| {
             assert_eq!(rows.len(), 256);
-            let events = Vec::new();
-            Case { rows, events }.answer().number
+            answer(rows)
         });
         assert_eq!(answers, [0, 0, 8]);
     }

@@ -1,8 +1,23 @@
 //! The ways to test a share: proved libraries that are linked, and plain Rust.
 #![allow(unsafe_code)]
 
+use std::arch::global_asm;
+use std::hint::black_box;
+
 use second::is_allowed;
 use trials::Row;
+
+// So many bytes before the code of the libraries, so that it comes to lie elsewhere.
+global_asm!(
+    ".section .text.ways_room,\"ax\"",
+    ".globl ways_room",
+    concat!("ways_room: .skip ", env!("WAYS_ROOM")),
+    ".text"
+);
+
+extern "C" {
+    fn ways_room();
+}
 
 type Allowed = unsafe extern "C" fn(u32) -> bool;
 type Odd = unsafe extern "C" fn(*const u32, usize) -> bool;
@@ -44,6 +59,7 @@ macro_rules! way {
 /// The walk first, the test as it stands last.
 #[rustfmt::skip]
 pub fn ways() -> [Way; 4] {
+    black_box(ways_room as *const ());
     [
         way!("walk", "way_walk", way_walk_allowed, way_walk_odd, way_walk_refused),
         way!("remainder", "way_remainder", way_remainder_allowed, way_remainder_odd, way_remainder_refused),

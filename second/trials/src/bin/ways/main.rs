@@ -1,5 +1,7 @@
-//! The program `ways [RUNS]`: times ways to tell whether a share is allowed, as Markdown; and
-//! `ways check WAY TABLE ROUNDS`, which checks a table so often by one way, to be counted.
+//! The program `ways RUNS PROGRAM...` prints, as Markdown, how quick several ways to tell whether a
+//! share is allowed are. The programs are this one again, linked so that the code lies elsewhere: each
+//! is called as `PROGRAM time RUNS` for its times, and the first as `PROGRAM check WAY TABLE ROUNDS`
+//! to have its instructions counted.
 #![deny(unsafe_code)]
 
 mod asked;
@@ -10,14 +12,12 @@ mod timing;
 use std::env;
 use std::hint::black_box;
 use std::io::{Error, Result};
-use std::process::ExitCode;
+use std::process::{Command, ExitCode};
 
 use counting::instructions;
 use linked::{plain_odd, ways, Columns, Way};
 use second::is_allowed;
 use timing::{best_times, Work};
-
-const DEFAULT_RUNS: usize = 9;
 
 /// Up to here every number is asked of every way.
 const ASKED: u32 = 70_000;
@@ -26,12 +26,10 @@ fn main() -> ExitCode {
     let arguments: Vec<String> = env::args().skip(1).collect();
     let arguments: Vec<&str> = arguments.iter().map(String::as_str).collect();
     let done = match arguments[..] {
-        [] => time(DEFAULT_RUNS),
+        ["time", runs] => number(runs).map(print_times),
         ["check", way, table, rounds] => check(way, table, rounds),
-        [runs] => number(runs).and_then(time),
-        _ => Err(Error::other(
-            "give a number of runs if you like: ways [RUNS]",
-        )),
+        [runs, ref programs @ ..] if !programs.is_empty() => compare(runs, programs),
+        _ => Err(Error::other("give a number of runs and the programs")),
     };
     match done {
         Ok(()) => ExitCode::SUCCESS,
@@ -47,6 +45,37 @@ fn number(text: &str) -> Result<usize> {
     number.ok_or_else(|| Error::other(format!("{text} is no number above 0")))
 }
 
+// ── what each program does ──
+
+/// A line for each slice of shares and then for each table: seconds by each way, for one share in
+/// plain Rust too, and for one share or for one table.
+fn print_times(runs: usize) {
+    let ways = ways();
+    for (_, shares) in asked::shares() {
+        let slice = &shares;
+        let mut works: Vec<Work> = Vec::new();
+        for way in &ways {
+            works.push(Box::new(move || u64::from(way.odd(black_box(slice)))));
+        }
+        works.push(Box::new(move || u64::from(plain_odd(black_box(slice)))));
+        print_figures(&best_times(&works, runs), shares.len());
+    }
+    for (_, rows) in asked::tables() {
+        let columns = Columns::of(&rows);
+        let table = &columns;
+        let mut works: Vec<Work> = Vec::new();
+        for way in &ways {
+            works.push(Box::new(move || u64::from(way.refused(black_box(table)))));
+        }
+        print_figures(&best_times(&works, runs), 1);
+    }
+}
+
+fn print_figures(times: &[f64], of: usize) {
+    let figures: Vec<String> = times.iter().map(|t| (t / of as f64).to_string()).collect();
+    println!("{}", figures.join(" "));
+}
+
 /// So many checks of a table, by the places of the way and of the table.
 fn check(way: &str, table: &str, rounds: &str) -> Result<()> {
     let ways = ways();
@@ -59,19 +88,48 @@ fn check(way: &str, table: &str, rounds: &str) -> Result<()> {
     Ok(())
 }
 
-fn time(runs: usize) -> Result<()> {
+// ── what is made of it ──
+
+fn compare(runs: &str, programs: &[&str]) -> Result<()> {
     let ways = ways();
     if let Some(wrong) = first_wrong(&ways) {
         return Err(Error::other(wrong));
     }
     println!("The test as it stands was asked all 4,294,967,296 numbers: none wrong.");
-    time_shares(&ways, runs);
-    time_tables(&ways, runs);
-    count_tables(&ways)
+    let mut best: Vec<Vec<f64>> = Vec::new();
+    for program in programs {
+        best = least(best, times_of(program, runs)?);
+    }
+    let names: Vec<&str> = ways.iter().map(|way| way.name).collect();
+    let best_of = format!(
+        "the best of {runs} runs of each of {} programs",
+        programs.len()
+    );
+    let (of_shares, of_tables) = best.split_at(asked::shares().len());
+
+    println!("\nOne test, in nanoseconds, in a loop over a slice: {best_of}.\n");
+    heading("Shares", &[&names[..], &["plain Rust"]].concat());
+    for ((name, _), times) in asked::shares().iter().zip(of_shares) {
+        line(name, times, 1e9, ways.len());
+    }
+    println!("\nThe check of a table of 255 classes, in microseconds: {best_of}.\n");
+    heading("Table", &names);
+    for ((name, _), times) in asked::tables().iter().zip(of_tables) {
+        line(name, times, 1e6, ways.len());
+    }
+    println!("\nThe instructions of the same checks, by valgrind.\n");
+    heading("Table", &names);
+    for (table, (name, _)) in asked::tables().iter().enumerate() {
+        let counts: Result<Vec<f64>> = (1..=ways.len())
+            .map(|way| instructions(programs[0], way, table + 1))
+            .collect();
+        line(name, &counts?, 1.0, ways.len());
+    }
+    Ok(())
 }
 
-/// The first number that a way says something else of than plain Rust does. The test as it
-/// stands, which is the last of the ways, is asked all numbers.
+/// The first number or table that a way says something else of than plain Rust does. The test as
+/// it stands, which is the last of the ways, is asked all numbers.
 fn first_wrong(ways: &[Way]) -> Option<String> {
     let differs = |way: &Way, share: u32| way.allowed(share) != is_allowed(share);
     let powers = (17..32).map(|bit| 1 << bit);
@@ -80,76 +138,50 @@ fn first_wrong(ways: &[Way]) -> Option<String> {
     let of_all = |way| (0..=u32::MAX).find(|share| differs(way, *share));
     let found = ways.iter().map(|way| (way, of_some(way)));
     let last = ways.last().map(|way| (way, of_all(way)));
-    found.chain(last).find_map(|(way, wrong)| {
+    let share = found.chain(last).find_map(|(way, wrong)| {
         wrong.map(|share| format!("{} is wrong about share {share}", way.name))
+    });
+    share.or_else(|| {
+        asked::tables().into_iter().find_map(|(name, rows)| {
+            let (table, answer) = (Columns::of(&rows), asked::answer(rows));
+            let way = ways.iter().find(|way| way.refused(&table) != answer)?;
+            Some(format!("{} is wrong about the table {name}", way.name))
+        })
     })
 }
 
-fn time_shares(ways: &[Way], runs: usize) {
-    println!("\nOne test, in nanoseconds, in a loop over a slice: the best of {runs} runs.\n");
-    let names = ways.iter().map(|way| way.name).chain(["plain Rust"]);
-    heading("Shares", names);
-    for (name, shares) in asked::shares() {
-        let odd = plain_odd(&shares);
-        assert!(ways.iter().all(|way| way.odd(&shares) == odd));
-        let slice = &shares;
-        let mut works: Vec<Work> = Vec::new();
-        for way in ways {
-            works.push(Box::new(move || u64::from(way.odd(black_box(slice)))));
-        }
-        works.push(Box::new(move || u64::from(plain_odd(black_box(slice)))));
-        let each = 1e9 / shares.len() as f64;
-        line(name, &best_times(&works, runs), each, ways.len());
-    }
+/// The lines that a program prints for its times.
+fn times_of(program: &str, runs: &str) -> Result<Vec<Vec<f64>>> {
+    let run = Command::new(program).args(["time", runs]).output()?;
+    let said = String::from_utf8_lossy(&run.stdout);
+    let figures = |line: &str| line.split(' ').map(str::parse).collect();
+    let lines: std::result::Result<_, _> = said.lines().map(figures).collect();
+    lines.map_err(|_| Error::other(format!("{program} printed something else than times")))
 }
 
-fn time_tables(ways: &[Way], runs: usize) {
-    println!("\nThe check of a table of 255 classes, in microseconds: the best of {runs} runs.\n");
-    heading("Table", ways.iter().map(|way| way.name));
-    for (name, rows) in asked::tables() {
-        let columns = Columns::of(&rows);
-        let answer = ways[0].refused(&columns);
-        assert!(ways.iter().all(|way| way.refused(&columns) == answer));
-        let table = &columns;
-        let mut works: Vec<Work> = Vec::new();
-        for way in ways {
-            works.push(Box::new(move || u64::from(way.refused(black_box(table)))));
-        }
-        line(name, &best_times(&works, runs), 1e6, ways.len());
+/// Figure by figure the lesser one.
+fn least(a: Vec<Vec<f64>>, b: Vec<Vec<f64>>) -> Vec<Vec<f64>> {
+    if a.is_empty() {
+        return b;
     }
+    let lesser = |(a, b): (&f64, &f64)| a.min(*b);
+    let lines = a.iter().zip(&b);
+    lines
+        .map(|(a, b)| a.iter().zip(b).map(lesser).collect())
+        .collect()
 }
 
-fn count_tables(ways: &[Way]) -> Result<()> {
-    println!("\nThe instructions of the same checks, by valgrind.\n");
-    heading("Table", ways.iter().map(|way| way.name));
-    for (table, (name, _)) in asked::tables().iter().enumerate() {
-        let mut counts = Vec::new();
-        for way in 0..ways.len() {
-            match instructions(way + 1, table + 1)? {
-                Some(count) => counts.push(count as f64),
-                None => return Err(Error::other("valgrind is missing; nothing was counted")),
-            }
-        }
-        line(name, &counts, 1.0, ways.len());
-    }
-    Ok(())
-}
-
-fn heading(first: &str, names: impl Iterator<Item = &'static str>) {
-    let names: Vec<&str> = names.collect();
-    println!(
-        "| {first} | {} | walk over as it stands |",
-        names.join(" | ")
-    );
+fn heading(first: &str, names: &[&str]) {
+    let names_row = names.join(" | ");
+    println!("| {first} | {names_row} | walk over as it stands |");
     println!("|---|{}--:|", "--:|".repeat(names.len()));
 }
 
 /// The figures in this unit, and how often the last of the ways goes into the first.
 fn line(name: &str, figures: &[f64], unit: f64, ways: usize) {
     let shown = figures.iter().map(|figure| figure * unit);
-    let shown: Vec<String> = shown
-        .map(|f| format!("{f:.*}", if f < 1e4 { 2 } else { 0 }))
-        .collect();
+    let digits = |figure: f64| if figure < 1e4 { 2 } else { 0 };
+    let shown: Vec<String> = shown.map(|f| format!("{f:.*}", digits(f))).collect();
     let ratio = figures[0] / figures[ways - 1];
     println!("| {name} | {} | {ratio:.2} |", shown.join(" | "));
 }
