@@ -3,32 +3,38 @@
 use second::WHOLE;
 use trials::{allowed_shares, even_table, Case, Random, Row};
 
-/// How many shares a slice has, but for those that all have one after the other.
+/// How many shares a slice has, unless it has each of them once.
 const SHARES: usize = 4096;
 
 /// Shares, and what they are.
 pub fn shares() -> [(&'static str, Vec<u32>); 5] {
     let mut random = Random::new(840, 0);
     let allowed = allowed_shares();
-    let mut shuffled: Vec<u32> = (0..=WHOLE).cycle().take(SHARES).collect();
-    for place in (1..shuffled.len()).rev() {
-        shuffled.swap(place, random.below(place + 1));
-    }
-    let mut times = |share: &mut dyn FnMut(&mut Random) -> u32| {
-        (0..SHARES)
-            .map(|_| share(&mut random))
-            .collect::<Vec<u32>>()
+    let shuffled = shuffled(&mut random);
+    let mut drawn = |share: fn(&mut Random, &[u32]) -> u32| -> Vec<u32> {
+        (0..SHARES).map(|_| share(&mut random, &allowed)).collect()
     };
     [
         ("0 to 840, ascending", (0..=WHOLE).collect()),
         ("0 to 840, in any order", shuffled),
-        ("allowed ones", times(&mut |random| random.pick(&allowed))),
         (
-            "above 840",
-            times(&mut |random| random.between(WHOLE as usize + 1, u32::MAX as usize) as u32),
+            "allowed ones",
+            drawn(|random, allowed| random.pick(allowed)),
         ),
+        ("above 840", drawn(|random, _| above(random))),
         ("4,294,967,295", vec![u32::MAX; SHARES]),
     ]
+}
+
+/// Each share up to the whole as often as any other, or once less.
+fn shuffled(random: &mut Random) -> Vec<u32> {
+    let mut shares: Vec<u32> = (0..=WHOLE).cycle().take(SHARES).collect();
+    random.shuffle(&mut shares);
+    shares
+}
+
+fn above(random: &mut Random) -> u32 {
+    random.between(WHOLE as usize + 1, u32::MAX as usize) as u32
 }
 
 /// Tables of 255 classes, and what they are.
