@@ -51,24 +51,22 @@ fn number(text: &str) -> Result<usize> {
 /// plain Rust too, and for one share or for one table.
 fn print_times(runs: usize) {
     let ways = ways();
-    for (_, shares) in asked::shares() {
-        let slice = &shares;
-        let mut works: Vec<Work> = Vec::new();
-        for way in &ways {
-            works.push(Box::new(move || u64::from(way.odd(black_box(slice)))));
-        }
-        works.push(Box::new(move || u64::from(plain_odd(black_box(slice)))));
+    for (_, shares) in &asked::shares() {
+        assert!(ways.iter().all(|way| way.odd(shares) == plain_odd(shares)));
+        let mut works = by_each(&ways, |way| u64::from(way.odd(black_box(shares))));
+        works.push(Box::new(|| u64::from(plain_odd(black_box(shares)))));
         print_figures(&best_times(&works, runs), shares.len());
     }
     for (_, rows) in asked::tables() {
-        let columns = Columns::of(&rows);
-        let table = &columns;
-        let mut works: Vec<Work> = Vec::new();
-        for way in &ways {
-            works.push(Box::new(move || u64::from(way.refused(black_box(table)))));
-        }
+        let table = &Columns::of(&rows);
+        let works = by_each(&ways, |way| u64::from(way.refused(black_box(table))));
         print_figures(&best_times(&works, runs), 1);
     }
+}
+
+fn by_each<'a>(ways: &'a [Way], work: impl Fn(&Way) -> u64 + Copy + 'a) -> Vec<Work<'a>> {
+    let of = |way: &'a Way| -> Work<'a> { Box::new(move || work(way)) };
+    ways.iter().map(of).collect()
 }
 
 fn print_figures(times: &[f64], of: usize) {
@@ -100,28 +98,33 @@ fn compare(runs: &str, programs: &[&str]) -> Result<()> {
     for program in programs {
         best = least(best, times_of(program, runs)?);
     }
-    let names: Vec<&str> = ways.iter().map(|way| way.name).collect();
-    let best_of = format!(
-        "the best of {runs} runs of each of {} programs",
-        programs.len()
-    );
-    let (of_shares, of_tables) = best.split_at(asked::shares().len());
+    let best_of = format!("best of {runs} runs of each of {} programs", programs.len());
+    print_best(&ways, &best, &best_of);
+    print_instructions(&ways, programs[0])
+}
 
-    println!("\nOne test, in nanoseconds, in a loop over a slice: {best_of}.\n");
+fn print_best(ways: &[Way], best: &[Vec<f64>], best_of: &str) {
+    let names: Vec<&str> = ways.iter().map(|way| way.name).collect();
+    let (of_shares, of_tables) = best.split_at(asked::shares().len());
+    println!("\nOne test, in nanoseconds, in a loop over a slice: the {best_of}.\n");
     heading("Shares", &[&names[..], &["plain Rust"]].concat());
     for ((name, _), times) in asked::shares().iter().zip(of_shares) {
         line(name, times, 1e9, ways.len());
     }
-    println!("\nThe check of a table of 255 classes, in microseconds: {best_of}.\n");
+    println!("\nThe check of a table of 255 classes, in microseconds: the {best_of}.\n");
     heading("Table", &names);
     for ((name, _), times) in asked::tables().iter().zip(of_tables) {
         line(name, times, 1e6, ways.len());
     }
+}
+
+fn print_instructions(ways: &[Way], program: &str) -> Result<()> {
     println!("\nThe instructions of the same checks, by valgrind.\n");
+    let names: Vec<&str> = ways.iter().map(|way| way.name).collect();
     heading("Table", &names);
     for (table, (name, _)) in asked::tables().iter().enumerate() {
         let counts: Result<Vec<f64>> = (1..=ways.len())
-            .map(|way| instructions(programs[0], way, table + 1))
+            .map(|way| instructions(program, way, table + 1))
             .collect();
         line(name, &counts?, 1.0, ways.len());
     }
