@@ -1,4 +1,4 @@
--- An accepted table: which rows send is as the check has written it, and the path up from each row ends at the root.
+-- An accepted table: no two rows are one on the air, which rows send is as the check has written it, and the path up from each row ends at the root.
 -- Assumes nothing.
 use Prim.Native.Nat.{ℕ, _≤_, _<_}
 use mathlib.Core.Path.{_≡_, refl}
@@ -12,6 +12,7 @@ use Rattle.input.proofs.Filled.{filled-at}
 use Rattle.laws.specs.Sound.{Sound}
 use Rattle.laws.proofs.tree.Paths.{root-within}
 use Rattle.laws.proofs.tree.Trees.{tree-rows, tree-names, sound}
+use Rattle.laws.proofs.tree.OnAir.{apart-on-air}
 use Rattle.tables.specs.Answers.{senders-below}
 use Rattle.checks.specs.Counted.{Known}
 
@@ -29,6 +30,7 @@ module _ (table : Table) (sized : rows-refused table .number ≡ 0) (fine : tabl
       record {
         rows = tree-rows table;
         names = tree-names table;
+        apart = apart-on-air table fine;
         sending = λ r inside. senders-filled (tree-of table) (tree-of table .rows) r (omega (arith, tree-rows table)) (is-sound .few-rows);
         rooted = λ r inside. root-within (tree-of table) is-sound r (omega (arith, tree-rows table));
       }

@@ -13,6 +13,7 @@ use Rattle.input.specs.EventRows.{row-for, no-rows, rows-for}
 use Rattle.input.specs.Refusals.{Room, first, first-below, rows-refused, events-refused, room-refused, meeting-refused}
 use Rattle.rules.specs.Promise.{within, arrived, finish-count}
 use Rattle.rules.specs.Refused.{refused}
+use Rattle.laws.specs.Sound.{ApartOnAir}
 use Rattle.tables.specs.Answers.{refusing, answer}
 use Rattle.checks.specs.declared.EventCheck.{EventCheck}
 use Rattle.checks.specs.declared.ListCheck.{ListCheck}
@@ -30,10 +31,11 @@ ChecksLengths table events room refusal = refusal ≡ lengths-refused table even
 
 -- ── the events ──
 
--- what the check of an event goes by: the rows' identifiers, which rows send, and that each row stands below the root
+-- what the check of an event goes by: the rows' identifiers, which differ on the air, which rows send, and that each row stands below the root
 pub record Known (tree : Tree) (identifiers : List ℕ) (senders : List Bool) : Type 0 where
   pub rows : tree .rows ≡ length identifiers
   pub names : tree .identifiers ≡ identifiers
+  pub apart : ApartOnAir identifiers
   pub sending : (r : ℕ) → r < length identifiers → getD senders r false ≡ sends tree r
   pub rooted : (r : ℕ) → r < length identifiers → within tree 0 r ≡ true
 

@@ -1,2 +1,3 @@
 -- What the checks' contracts cite.
 pub mod Counted
+pub mod Filed

@@ -1,5 +1,7 @@
 // The checks of a whole input: refusals of the slices' lengths, of a class table and of an event list, and the row that each event is
 // for. They write nothing that is lent.
+mod rows;
+
 ghost use mathlib.Core.Path.{_≡_};
 ghost use mathlib.Core.Bool.{Bool};
 ghost use Prim.Native.Nat.{ℕ, _≤_, _<_, _^_};
@@ -10,11 +12,15 @@ ghost use Rattle.input.specs.Classes.{Tree};
 ghost use Rattle.input.specs.Refusals.{events-refused, room-refused, packet-refused};
 ghost use Rattle.input.specs.Lent.{table-of, events-of, room-with};
 ghost use Rattle.rules.specs.Promise.{one-arrival, one-finish};
+ghost use Rattle.checks.specs.Filed.{AllFiled};
 ghost use Rattle.checks.specs.Counted.{ChecksLengths, Known, Meets, MeetsAll, stopping, Checks};
 use input::Event;
 use input::EventRows;
+use input::OnAirRows;
 use input::Refusal;
 use input::RowMarks;
+use rows::filed;
+use rows::row_of;
 use tables::Reading;
 
 // An event as it is checked: what refuses it, and where nothing does the row that it is for.
@@ -150,16 +156,17 @@ fn packet_refused(i: usize, sending: bool, length: u32) -> Refusal
 // An arrival: 11, 12, 13.
 fn check_arrival(
     identifiers: &[u32],
+    rows: &OnAirRows,
     senders: &RowMarks,
     i: usize,
     class: u32,
     length: u32,
 ) -> EventCheck
-    requires { ⌜ (lists.length (now identifiers) ≤ most-rows) × (i < most-events) ⌝ }
+    requires { ⌜ AllFiled (now identifiers) (now rows) × (i < most-events) ⌝ }
     ensures { λ r. ⌜ ((tree : Tree) (word : ℕ) (idle : Bool) → Known tree (now (identifiers .entry)) (now (senders .entry))
         → Meets tree i word (Arrival class length) idle r) ⌝ }
 {
-    let row = tables::row_of(identifiers, class);
+    let row = row_of(identifiers, rows, class);
     if row == identifiers.len() {
         return EventCheck {
             refusal: tables::refusal(11, i, 0),
@@ -188,17 +195,25 @@ fn check_finish(i: usize, word: u32, idle: bool) -> EventCheck
 // An event at place i, with its length word, where the line is idle or not.
 fn check_event(
     identifiers: &[u32],
+    rows: &OnAirRows,
     senders: &RowMarks,
     i: usize,
     word: u32,
     event: Event,
     idle: bool,
 ) -> EventCheck
-    requires { ⌜ (lists.length (now identifiers) ≤ most-rows) × (i < most-events) ⌝ }
+    requires { ⌜ AllFiled (now identifiers) (now rows) × (i < most-events) ⌝ }
     ensures { λ r. ⌜ ((tree : Tree) → Known tree (now (identifiers .entry)) (now (senders .entry)) → Meets tree i word event idle r) ⌝ }
 {
     match event {
-        Event::Arrival { class, length } => check_arrival(identifiers, senders, i, class, length),
+        Event::Arrival { class, length } => check_arrival(
+            identifiers,
+            rows,
+            senders,
+            i,
+            class,
+            length,
+        ),
         Event::Finish => check_finish(i, word, idle),
     }
 }
@@ -210,11 +225,12 @@ fn check_list(
     classes: &[u32],
     lengths: &[u32],
 ) -> ListCheck
-    requires { ⌜ (lists.length (now identifiers) ≤ most-rows) × (lists.length (now classes) ≤ most-events)
+    requires { ⌜ (0 < lists.length (now identifiers)) × (lists.length (now identifiers) ≤ most-rows) × (lists.length (now classes) ≤ most-events)
         × (lists.length (now lengths) ≡ lists.length (now classes)) ⌝ }
     ensures { λ r. ⌜ ((tree : Tree) → Known tree (now (identifiers .entry)) (now (senders .entry))
         → MeetsAll tree (events-of (now (classes .entry)) (now (lengths .entry))) r) ⌝ }
 {
+    let on_air_rows = filed(identifiers);
     let mut rows = [0u8; input::MOST_EVENTS];
     let mut arrivals = 0;
     let mut finishes = 0;
@@ -222,7 +238,15 @@ fn check_list(
     while i < classes.len() {
         let word = lengths[i];
         let event = input::decode(classes[i], word);
-        let check = check_event(identifiers, senders, i, word, event, arrivals <= finishes);
+        let check = check_event(
+            identifiers,
+            &on_air_rows,
+            senders,
+            i,
+            word,
+            event,
+            arrivals <= finishes,
+        );
         let refusal = check.refusal;
         if refusal.number != 0 {
             return ListCheck { refusal, rows };

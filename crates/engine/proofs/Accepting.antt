@@ -145,7 +145,7 @@ module _ (table : Table) (events : Events) (room : Room) (ok : refused table eve
       let root = first-none _ (below-none (row-refused table) n rows-none 0 (whole-table .some)) in
       let a = eqb (getD (table .parent-identifiers) 0 0) 0 in
       let b = eqb (getD (table .shares) 0 0) 0 in
-      eqb-true (getD (table .shares) 0 0) 0 (not-false b (or-is-false (not a) (not b) .0 (given-none _ _ _ (root .1 .0)) .1))
+      eqb-true (getD (table .shares) 0 0) 0 (not-false b (or-is-false (not a) (not b) .0 (given-none _ _ _ (root .1 .1 .0)) .1))
 
   pub fit : Fit (tree-of table) events
   fit =

@@ -1,9 +1,10 @@
--- Small class tables, shares and lengths of packets, and what the definitions refuse of them.
+-- Small class tables, identifiers, shares and lengths of packets, and what the definitions refuse of them.
 -- Assumes nothing.
 use Prim.Native.Nat.{ℕ}
 use mathlib.Core.Path.{_≡_, refl}
 use mathlib.Core.Bool.{true, false}
 use mathlib.Core.List.{List, [], _∷_, map}
+use Rattle.input.specs.declared.Refusal.{Refusal}
 use Rattle.input.specs.Shares.{allowed}
 use Rattle.input.specs.Classes.{Table, place-of, earlier, parent-of, zeros, with-row, read, tree-of, child, children-share}
 use Rattle.input.specs.Refusals.{nothing, given, or-else, first, first-below, doubled, root-refused, class-refused, row-refused, shares-refused, table-refused, packet-refused}
@@ -30,6 +31,45 @@ pub refused :
 unfolding tables allowed place-of earlier parent-of zeros with-row read tree-of child children-share nothing given or-else first
     first-below doubled root-refused class-refused row-refused shares-refused table-refused
 refused = refl
+
+-- a refusal with no second place
+abbrev at : ℕ → ℕ → Refusal
+at number place = record { number = number; place = place; second = 0 }
+
+pub identifiers : List Table
+identifiers =
+    -- the largest, of the root and of a class
+    table-of (65535 ∷ 10 ∷ []) (0 ∷ 65535 ∷ []) (0 ∷ 420 ∷ [])
+    ∷ table-of (1 ∷ 65535 ∷ []) (0 ∷ 1 ∷ []) (0 ∷ 420 ∷ [])
+    -- one more, and far more
+    ∷ table-of (1 ∷ 65536 ∷ []) (0 ∷ 1 ∷ []) (0 ∷ 420 ∷ [])
+    ∷ table-of (1 ∷ 4294967295 ∷ []) (0 ∷ 1 ∷ []) (0 ∷ 420 ∷ [])
+    -- two rows with the same low 16 bits
+    ∷ table-of (1 ∷ 10 ∷ 65546 ∷ []) (0 ∷ 1 ∷ 1 ∷ []) (0 ∷ 420 ∷ 420 ∷ [])
+    -- the root's; and with a parent and a share besides
+    ∷ table-of (65536 ∷ 10 ∷ []) (0 ∷ 65536 ∷ []) (0 ∷ 420 ∷ [])
+    ∷ table-of (65536 ∷ 10 ∷ []) (3 ∷ 65536 ∷ []) (5 ∷ 420 ∷ [])
+    -- too large with no such parent and a share of 0
+    ∷ table-of (1 ∷ 65536 ∷ []) (0 ∷ 9 ∷ []) (0 ∷ 0 ∷ [])
+    -- 0 and then too large, too large and then 0
+    ∷ table-of (1 ∷ 0 ∷ 65536 ∷ []) (0 ∷ 1 ∷ 1 ∷ []) (0 ∷ 420 ∷ 420 ∷ [])
+    ∷ table-of (1 ∷ 65536 ∷ 0 ∷ []) (0 ∷ 1 ∷ 1 ∷ []) (0 ∷ 420 ∷ 420 ∷ [])
+    -- too large and then doubled; the same that is too large twice
+    ∷ table-of (1 ∷ 65536 ∷ 1 ∷ []) (0 ∷ 1 ∷ 1 ∷ []) (0 ∷ 420 ∷ 420 ∷ [])
+    ∷ table-of (1 ∷ 65536 ∷ 65536 ∷ []) (0 ∷ 1 ∷ 1 ∷ []) (0 ∷ 420 ∷ 420 ∷ [])
+    ∷ []
+
+pub identifiers-refused :
+    map table-refused identifiers
+    ≡ nothing ∷ nothing ∷ at 15 1 ∷ at 15 1 ∷ at 15 2 ∷ at 15 0 ∷ at 15 0 ∷ at 15 1 ∷ at 4 1 ∷ at 15 1 ∷ at 15 1 ∷ at 15 1 ∷ []
+unfolding identifiers allowed place-of earlier parent-of zeros with-row read tree-of child children-share nothing given or-else first
+    first-below doubled root-refused class-refused row-refused shares-refused table-refused
+identifiers-refused = refl
+
+-- within a row 15 comes before 5: row 2 with an identifier that is too large and that row 1 has as well
+pub large-before-doubled : class-refused 2 65536 1 0 420 1 ≡ at 15 2
+unfolding nothing given or-else first doubled class-refused
+large-before-doubled = refl
 
 -- the edges, shares beside allowed ones, and past the whole one that divides the scale
 pub shares : List ℕ

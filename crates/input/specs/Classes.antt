@@ -1,10 +1,11 @@
 -- The class table and how it is read: parents as rows, children, depth, sending classes. The root, row 0, is the line.
-use Prim.Native.Nat.{ℕ, zero, suc, _+_}
+use Prim.Native.Nat.{ℕ, zero, suc, _+_, _%_}
+use mathlib.Core.Path.{_≡_}
 use mathlib.Core.Bool.{Bool, false, cond, not, _&&_, _||_}
 use mathlib.Core.List.{List, [], _∷_}
 use lib.Dec.{ltb, eqb}
 use lib.ListN.{length, getD, take, set, replicate}
-use Rattle.input.specs.Limits.{most-rows}
+use Rattle.input.specs.Limits.{most-rows, on-air-identifiers}
 
 -- the table as it is lent: for each row its identifier, its parent's identifier and its share
 pub record Table : Type 0 where
@@ -66,6 +67,14 @@ share tree r = getD (tree .shares) r 0
 -- the row of the class with this identifier; the number of rows where there is none
 unfoldable pub row-of : Tree → ℕ → ℕ
 row-of tree class = place-of class (tree .identifiers)
+
+-- an identifier as the modem sends it: its low bits
+unfoldable pub on-air : ℕ → ℕ
+on-air identifier = identifier % on-air-identifiers
+
+-- what `on_air` states of its result, which is all of it
+abbrev pub Cuts : ℕ → ℕ → Type 0
+Cuts identifier r = r ≡ on-air identifier
 
 -- r is a child of p; the root is nobody's
 unfoldable pub child : Tree → ℕ → ℕ → Bool

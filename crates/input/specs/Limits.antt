@@ -1,5 +1,5 @@
 -- The limits and units of the rules, each a named number.
-use Prim.Native.Nat.{ℕ, _*_}
+use Prim.Native.Nat.{ℕ, _*_, _^_}
 
 -- rows of a class table, the root's among them
 abbrev pub least-rows : ℕ
@@ -11,6 +11,13 @@ most-rows = 256
 -- how far below the root a class may stand
 abbrev pub most-depth : ℕ
 most-depth = 8
+
+abbrev pub most-identifier : ℕ
+most-identifier = 65535
+
+-- identifiers that the modem tells apart: it sends 16 bits of each
+abbrev pub on-air-identifiers : ℕ
+on-air-identifiers = 2 ^ 16
 
 abbrev pub most-events : ℕ
 most-events = 65536

@@ -7,7 +7,7 @@ use lib.ListN.{length, getD}
 use Rattle.input.specs.declared.Event.{Event}
 use Rattle.input.specs.declared.Event.the-variants.{Arrival, Finish}
 use Rattle.input.specs.declared.Refusal.{Refusal}
-use Rattle.input.specs.Limits.{least-rows, most-rows, most-depth, most-events, least-bytes, most-bytes, whole, report-words}
+use Rattle.input.specs.Limits.{least-rows, most-rows, most-identifier, most-depth, most-events, least-bytes, most-bytes, whole, report-words}
 use Rattle.input.specs.Shares.{allowed}
 use Rattle.input.specs.Classes.{Table, Tree, earlier, parent-of, tree-of, depth, row-of, sends, children-share}
 use Rattle.input.specs.Events.{Events, count}
@@ -61,11 +61,12 @@ room-refused rows events room =
 
 -- ── the class table ──
 
--- row 0: 4 and 6 alone
+-- row 0: 4, 15 and 6 alone
 unfoldable pub root-refused : Table → Refusal
 root-refused table =
     first
     (given (eqb (getD (table .identifiers) 0 0) 0) 4 0
+    ∷ given (ltb most-identifier (getD (table .identifiers) 0 0)) 15 0
     ∷ given (not (eqb (getD (table .parent-identifiers) 0 0) 0) || not (eqb (getD (table .shares) 0 0) 0)) 6 0
     ∷ [])
 
@@ -73,11 +74,12 @@ root-refused table =
 unfoldable pub doubled : ℕ → ℕ → Refusal
 doubled r other = cond (ltb other r) (record { number = 5; place = r; second = other }) nothing
 
--- any other row r: 4, 5, 7, 8, 9, by its identifier, the first row with that identifier, its parent's row, its share and its depth
+-- any other row r: 4, 15, 5, 7, 8, 9, by its identifier, the first row with that identifier, its parent's row, its share and its depth
 unfoldable pub class-refused : ℕ → ℕ → ℕ → ℕ → ℕ → ℕ → Refusal
 class-refused r identifier earlier parent share depth =
     first
     (given (eqb identifier 0) 4 r
+    ∷ given (ltb most-identifier identifier) 15 r
     ∷ doubled r earlier
     ∷ given (eqb parent r) 7 r
     ∷ given (not (allowed share)) 8 r

@@ -1,5 +1,9 @@
 // The words that definitions and code share about what is put in: limits and units, the two kinds of event, a refusal, and a run's answer.
+ghost use Prim.Native.Nat.{_<_};
+ghost use Rattle.input.specs.Limits.{on-air-identifiers};
+ghost use Rattle.input.specs.Classes.{Cuts};
 ghost use Rattle.input.specs.Events.{Decodes};
+use words::wide;
 
 // ── limits and units: the numbers of specs/Limits.antt ──
 
@@ -10,6 +14,11 @@ pub const MOST_ROWS: usize = 256;
 
 // How far below the root a class may stand.
 pub const MOST_DEPTH: u32 = 8;
+
+pub const MOST_IDENTIFIER: u32 = 65535;
+
+// Identifiers that the modem tells apart.
+pub const ON_AIR_IDENTIFIERS: usize = 65536;
 
 pub const MOST_EVENTS: usize = 65536;
 
@@ -44,6 +53,9 @@ pub type RowMarks = [bool; MOST_ROWS];
 // The row of each event's class, as far as there can be events.
 pub type EventRows = [u8; MOST_EVENTS];
 
+// A row for each identifier that the modem tells from the others.
+pub type OnAirRows = [u8; ON_AIR_IDENTIFIERS];
+
 // ── what is put in, and what is answered ──
 
 // An event: a packet of `length` bytes has arrived for the class with this identifier, or the line has finished its packet.
@@ -60,6 +72,13 @@ pub fn decode(class: u32, length: u32) -> Event
         return Event::Finish;
     }
     Event::Arrival { class, length }
+}
+
+// An identifier as the modem sends it: its low bits.
+pub fn on_air(identifier: u32) -> usize
+    ensures { λ r. ⌜ Cuts identifier r × (r < on-air-identifiers) ⌝ }
+{
+    wide(identifier) % ON_AIR_IDENTIFIERS
 }
 
 // Why an input is refused, and where. Number 0 refuses nothing.

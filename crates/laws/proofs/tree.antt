@@ -2,3 +2,4 @@
 pub mod Paths
 pub mod Depths
 pub mod Trees
+pub mod OnAir

@@ -2,11 +2,12 @@
 use Prim.Native.Nat.{ℕ, suc, _≤_, _<_}
 use mathlib.Core.Path.{_≡_}
 use mathlib.Core.Bool.{true, false}
+use mathlib.Core.List.{List}
 use lib.Dec.{T}
-use lib.ListN.{length}
+use lib.ListN.{length, getD}
 use Rattle.input.specs.Limits.{most-rows, most-depth, most-bytes, whole}
 use Rattle.input.specs.Shares.{allowed}
-use Rattle.input.specs.Classes.{Tree, parent, depth, share, row-of, sends, children-share}
+use Rattle.input.specs.Classes.{Tree, parent, depth, share, row-of, on-air, sends, children-share}
 
 pub record Sound (tree : Tree) : Type 0 where
   pub some-rows : 0 < tree .rows
@@ -18,6 +19,11 @@ pub record Sound (tree : Tree) : Type 0 where
   pub shallow : (r : ℕ) → r < tree .rows → depth tree r ≤ most-depth
   pub share-allowed : (r : ℕ) → 0 < r → r < tree .rows → T (allowed (share tree r))
   pub shares-fit : (p : ℕ) → p < tree .rows → children-share tree p (tree .rows) ≤ whole
+
+-- no two rows have identifiers that are one on the air
+abbrev pub ApartOnAir : List ℕ → Type 0
+ApartOnAir identifiers =
+    (r s : ℕ) → r < length identifiers → s < length identifiers → on-air (getD identifiers r 0) ≡ on-air (getD identifiers s 0) → r ≡ s
 
 -- row j is a child of row p
 pub record Kid (tree : Tree) (p j : ℕ) : Type 0 where

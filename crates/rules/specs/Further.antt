@@ -109,6 +109,39 @@ lengths =
           ∷ [];
     }
 
+-- the largest identifiers: an inner row's, and below it a sending class's, whose packet and parent are found by them
+unfoldable pub largest-identifiers : Run
+largest-identifiers =
+    record {
+      lent =
+          lend (row 1 0 0 ∷ row 65535 1 420 ∷ row 65534 65535 840 ∷ row 10 1 420 ∷ [])
+          (packet 65534 100 ∷ packet 10 100 ∷ finish ∷ finish ∷ []);
+      facts =
+          Answers 0 0 0 2
+          ∷ Order (0 ∷ 1 ∷ 7 ∷ 7 ∷ 7 ∷ [])
+          ∷ RowReport 0 (200 ∷ 0 ∷ 0 ∷ 168000 ∷ 0 ∷ [])
+          ∷ RowReport 1 (100 ∷ 0 ∷ 168000 ∷ 84000 ∷ 0 ∷ [])
+          ∷ RowReport 2 (100 ∷ 0 ∷ 84000 ∷ 0 ∷ 0 ∷ [])
+          ∷ RowReport 3 (100 ∷ 84000 ∷ 252000 ∷ 0 ∷ 0 ∷ [])
+          ∷ [];
+    }
+
+-- rows 1 and 2 would be one on the air, since 65546 is 10 in its low 16 bits
+unfoldable pub one-on-air : Run
+one-on-air =
+    record {
+      lent = lend (row 1 0 0 ∷ row 10 1 420 ∷ row 65546 1 420 ∷ []) (packet 10 100 ∷ finish ∷ []);
+      facts = Answers 15 2 0 0 ∷ Order (replicate 3 7) ∷ Report (replicate 16 7) ∷ Lags (replicate 4 (pos 7)) ∷ Working (replicate 3 7) ∷ [];
+    }
+
+-- the root's identifier goes on the air like any other, and is looked at before its parent and share
+unfoldable pub root-on-air : Run
+root-on-air = record { lent = lend (row 65536 3 5 ∷ row 10 65536 420 ∷ []) []; facts = Answers 15 0 0 0 ∷ [] }
+
+-- a packet for 65546 is not for class 10, whose low 16 bits it has
+unfoldable pub class-on-air : Run
+class-on-air = record { lent = lend halves (packet 10 100 ∷ packet 65546 100 ∷ []); facts = Answers 11 1 0 0 ∷ [] }
+
 -- a refusal after events that are none: every lent word stays
 unfoldable pub untouched : Run
 untouched =
@@ -124,4 +157,6 @@ untouched =
     }
 
 unfoldable pub runs : List Run
-runs = not-eligible ∷ behind ∷ inner ∷ head-counts ∷ waited ∷ lengths ∷ untouched ∷ []
+runs =
+    not-eligible ∷ behind ∷ inner ∷ head-counts ∷ waited ∷ lengths ∷ largest-identifiers ∷ one-on-air ∷ root-on-air ∷ class-on-air
+    ∷ untouched ∷ []

@@ -13,8 +13,10 @@ use input::LEAST_ROWS;
 use input::MOST_BYTES;
 use input::MOST_DEPTH;
 use input::MOST_EVENTS;
+use input::MOST_IDENTIFIER;
 use input::MOST_ROWS;
 use input::WHOLE;
+use input::on_air;
 use output::Sink;
 use output::put_byte;
 use output::put_named;
@@ -72,7 +74,7 @@ fn put_start(out: &mut [u8; 8192], sink: Sink, number: u32) -> Sink {
     put_text(out, sink, b": ")
 }
 
-// 1 and 4 to 10: the class table.
+// 1, 4 to 10 and 15: the class table.
 fn of_table<'a>(
     out: &mut [u8; 8192],
     sink: Sink,
@@ -93,6 +95,7 @@ fn of_table<'a>(
         8 => share(out, sink, identifiers, shares, place),
         9 => deep(out, sink, identifiers, place),
         10 => sum(out, sink, identifiers, parents, shares, place),
+        15 => large(out, sink, identifiers, place),
         _ => sink,
     }
 }
@@ -149,12 +152,22 @@ fn events_wrong(out: &mut [u8; 8192], sink: Sink, events: u64) -> Sink {
 
 fn zero(out: &mut [u8; 8192], sink: Sink, row: u32) -> Sink {
     let sink = put_row(out, sink, row);
-    let sink = put_named(
-        out,
-        sink,
-        b" has identifier 0; give it a number from 1 to ",
-        u32::MAX,
-    );
+    let sink = put_text(out, sink, b" has identifier 0");
+    put_identifiers(out, sink)
+}
+
+fn large(out: &mut [u8; 8192], sink: Sink, identifiers: &[u32], row: u32) -> Sink {
+    let identifier = word(identifiers, row);
+    let sink = put_row(out, sink, row);
+    let sink = put_named(out, sink, b" has identifier ", identifier);
+    let sink = put_text(out, sink, b", which the modem cuts to its low 16 bits, ");
+    let sink = put_number(out, sink, on_air(identifier) as u64);
+    put_identifiers(out, sink)
+}
+
+// Which identifiers there are to give.
+fn put_identifiers(out: &mut [u8; 8192], sink: Sink) -> Sink {
+    let sink = put_named(out, sink, b"; give it a number from 1 to ", MOST_IDENTIFIER);
     put_byte(out, sink, 46)
 }
 

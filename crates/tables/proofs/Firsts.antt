@@ -63,13 +63,15 @@ doubled-plain r other = test-plain (ltb other r) 5 r other (omega arith)
 row-plain : (table : Table) (r : ℕ) → Plain (row-refused table r)
 unfolding row-refused root-refused class-refused first
 row-plain table zero =
-    or-else-plain (given _ 4 0) _ (given-plain _ 4 0 (omega arith)) (last-plain (given _ 6 0) (given-plain _ 6 0 (omega arith)))
+    or-else-plain (given _ 4 0) _ (given-plain _ 4 0 (omega arith))
+    (or-else-plain (given _ 15 0) _ (given-plain _ 15 0 (omega arith)) (last-plain (given _ 6 0) (given-plain _ 6 0 (omega arith))))
 row-plain table (suc r) =
     or-else-plain (given _ 4 (suc r)) _ (given-plain _ 4 (suc r) (omega arith))
+    (or-else-plain (given _ 15 (suc r)) _ (given-plain _ 15 (suc r) (omega arith))
     (or-else-plain (doubled (suc r) _) _ (doubled-plain (suc r) _)
     (or-else-plain (given _ 7 (suc r)) _ (given-plain _ 7 (suc r) (omega arith))
     (or-else-plain (given _ 8 (suc r)) _ (given-plain _ 8 (suc r) (omega arith))
-    (last-plain (given _ 9 (suc r)) (given-plain _ 9 (suc r) (omega arith))))))
+    (last-plain (given _ 9 (suc r)) (given-plain _ 9 (suc r) (omega arith)))))))
 
 pub table-plain : (table : Table) → Plain (table-refused table)
 unfolding table-refused shares-refused

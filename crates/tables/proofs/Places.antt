@@ -18,13 +18,14 @@ place-later : (x y : ℕ) (ys : List ℕ) → y ≢ x → place-of x (y ∷ ys) 
 unfolding place-of
 place-later x y ys other = rw (place-of, ne-eqb x y (λ e. other (sym e))) refl
 
-found-at : (x : ℕ) (xs : List ℕ) (i : ℕ) → i < length xs → getD xs i 0 ≡ x → ((j : ℕ) → j < i → getD xs j 0 ≢ x) → place-of x xs ≡ i
+-- the first place of x, or that there is none
+pub found-at : (x : ℕ) (xs : List ℕ) (i : ℕ) → i < length xs → getD xs i 0 ≡ x → ((j : ℕ) → j < i → getD xs j 0 ≢ x) → place-of x xs ≡ i
 found-at x [] i inside here before = absurd (omega arith)
 found-at x (y ∷ ys) zero inside here before = place-here x y ys here
 found-at x (y ∷ ys) (suc i) inside here before =
     place-later x y ys (before 0 (omega arith)) ∙ ap suc (found-at x ys i (omega arith) here (λ j below. before (suc j) (omega arith)))
 
-found-none : (x : ℕ) (xs : List ℕ) → ((j : ℕ) → j < length xs → getD xs j 0 ≢ x) → place-of x xs ≡ length xs
+pub found-none : (x : ℕ) (xs : List ℕ) → ((j : ℕ) → j < length xs → getD xs j 0 ≢ x) → place-of x xs ≡ length xs
 unfolding place-of
 found-none x [] none = refl
 found-none x (y ∷ ys) none =

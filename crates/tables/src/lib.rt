@@ -14,6 +14,7 @@ ghost use Rattle.tables.specs.Answers as answers;
 ghost use Rattle.tables.specs.Stated.{Reads, Finds};
 use input::LEAST_ROWS;
 use input::MOST_DEPTH;
+use input::MOST_IDENTIFIER;
 use input::MOST_ROWS;
 use input::Refusal;
 use input::RowMarks;
@@ -127,13 +128,16 @@ pub fn rows_refused(identifiers: &[u32], parent_identifiers: &[u32], shares: &[u
     none()
 }
 
-// Row 0: 4 and 6.
+// Row 0: 4, 15 and 6.
 fn root_refused(identifiers: &[u32], parent_identifiers: &[u32], shares: &[u32]) -> Refusal
     requires { ⌜ Sized (table-of (now identifiers) (now «parent_identifiers») (now shares)) ⌝ }
     ensures { λ r. ⌜ r ≡ root-refused (table-of (now (identifiers .entry)) (now («parent_identifiers» .entry)) (now (shares .entry))) ⌝ }
 {
     if identifiers[0] == 0 {
         return refusal(4, 0, 0);
+    }
+    if MOST_IDENTIFIER < identifiers[0] {
+        return refusal(15, 0, 0);
     }
     if parent_identifiers[0] != 0 {
         return refusal(6, 0, 0);
@@ -144,7 +148,7 @@ fn root_refused(identifiers: &[u32], parent_identifiers: &[u32], shares: &[u32])
     none()
 }
 
-// Any other row, by its identifier, the first row that has that identifier, its parent's row, its share and its depth: 4, 5, 7, 8, 9.
+// Any other row, by its identifier, the first row that has that identifier, its parent's row, its share and its depth: 4, 15, 5, 7, 8, 9.
 fn class_refused(
     r: usize,
     identifier: u32,
@@ -158,6 +162,9 @@ fn class_refused(
 {
     if identifier == 0 {
         return refusal(4, r, 0);
+    }
+    if MOST_IDENTIFIER < identifier {
+        return refusal(15, r, 0);
     }
     if earlier < r {
         return refusal(5, r, earlier);

@@ -26,4 +26,4 @@ pub use run::{inside, run, MOST_EVENTS, MOST_ROWS};
 pub use sentences::sentence;
 pub use shares::{is_allowed, WHOLE};
 pub use slices::{EventSlices, Lent, Room, TableSlices};
-pub use table::MOST_DEPTH;
+pub use table::{MOST_DEPTH, MOST_IDENTIFIER};

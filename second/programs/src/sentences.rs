@@ -13,7 +13,7 @@ pub fn sentence(answer: &Answer, table: &TableSlices, events: &EventSlices) -> O
         2 => list(events),
         3 => "a slice lent for the results is too short.".to_string(),
         4 => format!(
-            "{} has identifier 0; give it a number from 1 to 4294967295.",
+            "{} has identifier 0; give it a number from 1 to 65535.",
             row_name(place)
         ),
         5 => repeated(table, place, answer.second as usize),
@@ -33,6 +33,7 @@ pub fn sentence(answer: &Answer, table: &TableSlices, events: &EventSlices) -> O
             "{} is a finish while the line is idle; take it out or put an arrival before it.",
             event_name(place)
         ),
+        15 => large(table, place),
         _ => return None,
     };
     Some(format!("refused {}: {said}", answer.number))
@@ -75,6 +76,16 @@ fn list(events: &EventSlices) -> String {
         return "the list's two slices differ in length; make them equal.".to_string();
     }
     format!("the list has {count} events; give it at most 65536.")
+}
+
+fn large(table: &TableSlices, row: usize) -> String {
+    let identifier = word(table.identifiers, row);
+    let sent = identifier & 0xffff;
+    format!(
+        "{} has identifier {identifier}, which the modem cuts to its low 16 bits, {sent}; \
+         give it a number from 1 to 65535.",
+        row_name(row)
+    )
 }
 
 fn repeated(table: &TableSlices, row: usize, earlier: usize) -> String {

@@ -1,10 +1,13 @@
-//! The class table as a tree of rows, and refusals 4 to 10.
+//! The class table as a tree of rows, and refusals 4 to 10 and 15.
 
 use crate::answer::Answer;
 use crate::shares;
 use crate::slices::TableSlices;
 
 pub const MOST_DEPTH: usize = 8;
+
+/// The modem sends the low 16 bits of an identifier and no more.
+pub const MOST_IDENTIFIER: u32 = 65_535;
 
 pub struct Row {
     pub identifier: u32,
@@ -51,6 +54,9 @@ impl Table {
     fn add_row(&mut self, identifier: u32, parent: u32, share: u32) -> Result<(), Answer> {
         if identifier == 0 {
             return Err(Answer::refused(4, self.rows.len()));
+        }
+        if identifier > MOST_IDENTIFIER {
+            return Err(Answer::refused(15, self.rows.len()));
         }
         if self.rows.is_empty() {
             self.add_root(identifier, parent, share)

@@ -1,4 +1,4 @@
-//! Refusals 4 to 14, each alone and in pairs that show which comes first.
+//! Refusals 4 to 15, each alone and in pairs that show which comes first.
 
 use crate::common::{
     accepted, chain, marked, refused, refused_columns, Columns, FINISH, HALVES, ROOT, TWO_LEVELS,
@@ -12,6 +12,28 @@ fn identifier_0_gives_4_with_its_row() {
 #[test]
 fn the_roots_identifier_0_gives_4() {
     assert_eq!(refused(&[(0, 0, 0), (10, 1, 420)], &[]), (4, 0, 0));
+}
+
+#[test]
+fn an_identifier_gives_15_from_65536_on() {
+    for identifier in [2, 255, 256, 32_767, 32_768, 65_534, 65_535] {
+        accepted(&[ROOT, (identifier, 1, 420)], &[(identifier, 100)]);
+        accepted(&[(identifier, 0, 0), (1, identifier, 420)], &[(1, 100)]);
+    }
+    // In 16 bits they would be 0, 1, 2, 10, 0, 10 and 65,535.
+    let large = [65_536, 65_537, 65_538, 65_546, 1 << 31, (1 << 31) + 10];
+    for identifier in large.into_iter().chain([u32::MAX]) {
+        let rows = [ROOT, (10, 1, 420), (identifier, 1, 420)];
+        assert_eq!(refused(&rows, &[(10, 100)]), (15, 2, 0));
+        let rows = [(identifier, 0, 0), (10, identifier, 420)];
+        assert_eq!(refused(&rows, &[(10, 100)]), (15, 0, 0));
+    }
+}
+
+#[test]
+fn a_parent_over_65535_is_no_row() {
+    let rows = [ROOT, (10, 1, 420), (20, 65_546, 420)];
+    assert_eq!(refused(&rows, &[]), (7, 2, 0));
 }
 
 #[test]
@@ -60,6 +82,13 @@ fn shares_are_summed_for_each_parent_alone() {
 #[test]
 fn an_unknown_class_gives_11() {
     assert_eq!(refused(&HALVES, &[(10, 1), (77, 1)]), (11, 1, 0));
+}
+
+#[test]
+fn a_class_over_65535_is_not_the_one_with_its_low_bits() {
+    for class in [65_546, 65_556, (1 << 31) + 10, u32::MAX - 65_535 + 20] {
+        assert_eq!(refused(&HALVES, &[(10, 1), (class, 1)]), (11, 1, 0));
+    }
 }
 
 #[test]
@@ -135,6 +164,67 @@ fn order_4_before_6_at_the_root() {
 #[test]
 fn order_4_before_7_and_8() {
     assert_eq!(refused(&[ROOT, (0, 99, 756)], &[]), (4, 1, 0));
+}
+
+#[test]
+fn order_an_earlier_rows_4_before_a_later_rows_15() {
+    let rows = [ROOT, (0, 1, 420), (65_536, 1, 420)];
+    assert_eq!(refused(&rows, &[]), (4, 1, 0));
+}
+
+#[test]
+fn order_an_earlier_rows_15_before_a_later_rows_4() {
+    let rows = [ROOT, (65_536, 1, 420), (0, 1, 420)];
+    assert_eq!(refused(&rows, &[]), (15, 1, 0));
+}
+
+#[test]
+fn order_15_before_6_at_the_root() {
+    assert_eq!(refused(&[(65_536, 9, 9), (10, 1, 1)], &[]), (15, 0, 0));
+}
+
+#[test]
+fn order_15_and_5_by_the_row() {
+    // A row's own 15 hides its 5, and so does that of the earlier row with the same number.
+    let rows = [ROOT, (65_536, 1, 420), (65_536, 1, 420)];
+    assert_eq!(refused(&rows, &[]), (15, 1, 0));
+    let rows = [ROOT, (65_536, 1, 420), (1, 1, 420)];
+    assert_eq!(refused(&rows, &[]), (15, 1, 0));
+    let rows = [ROOT, (1, 1, 420), (65_536, 1, 420)];
+    assert_eq!(refused(&rows, &[]), (5, 1, 0));
+}
+
+#[test]
+fn order_15_before_7_8_and_9() {
+    assert_eq!(refused(&[ROOT, (65_536, 99, 420)], &[]), (15, 1, 0));
+    assert_eq!(refused(&[ROOT, (65_536, 1, 756)], &[]), (15, 1, 0));
+    let mut rows = chain(9);
+    rows[9].0 = 65_536;
+    assert_eq!(refused(&rows, &[]), (15, 9, 0));
+}
+
+#[test]
+fn order_an_earlier_rows_7_before_a_later_rows_15() {
+    let rows = [ROOT, (10, 99, 420), (65_536, 1, 420)];
+    assert_eq!(refused(&rows, &[]), (7, 1, 0));
+}
+
+#[test]
+fn order_a_later_rows_15_before_10() {
+    let rows = [ROOT, (10, 1, 840), (20, 1, 1), (65_536, 1, 1)];
+    assert_eq!(refused(&rows, &[]), (15, 3, 0));
+}
+
+#[test]
+fn order_3_before_15() {
+    let columns = Columns::new(&[(65_536, 0, 0), (10, 65_536, 1)], &[]);
+    assert_eq!(refused_columns(&columns, &marked(1, 0, 0)), (3, 0, 0));
+}
+
+#[test]
+fn order_15_before_11() {
+    let rows = [ROOT, (65_536, 1, 420)];
+    assert_eq!(refused(&rows, &[(77, 0)]), (15, 1, 0));
 }
 
 #[test]

@@ -75,7 +75,7 @@ fn an_accepted_run_has_no_sentence() {
 fn sentence_4_names_the_row_and_its_line() {
     let rows = [ROOT, (10, 1, 280), (20, 1, 280), (0, 1, 280)];
     let said = "refused 4: row 3 (line 5) has identifier 0; \
-                give it a number from 1 to 4294967295.";
+                give it a number from 1 to 65535.";
     says("sentence_4", &rows, &[], "4,3,0", said);
 }
 
@@ -187,4 +187,23 @@ fn sentence_14_for_an_idle_line() {
     let said = "refused 14: event 0 (line 2) is a finish while the line is idle; \
                 take it out or put an arrival before it.";
     says("sentence_14", &HALVES, &[FINISH], "14,0,0", said);
+}
+
+#[test]
+fn sentence_15_names_what_the_modem_sends() {
+    let said = |place: usize, identifier: u32, sent: u32| {
+        format!(
+            "refused 15: row {place} (line {}) has identifier {identifier}, which the modem \
+             cuts to its low 16 bits, {sent}; give it a number from 1 to 65535.",
+            place + 2
+        )
+    };
+    for (identifier, sent) in [(65_536, 0), (65_546, 10), (u32::MAX, 65_535)] {
+        let rows = [ROOT, (10, 1, 420), (identifier, 1, 420)];
+        let test = format!("sentence_15_{identifier}");
+        says(&test, &rows, &[], "15,2,0", &said(2, identifier, sent));
+        let rows = [(identifier, 0, 0), (10, identifier, 420)];
+        let test = format!("sentence_15_root_{identifier}");
+        says(&test, &rows, &[], "15,0,0", &said(0, identifier, sent));
+    }
 }

@@ -8,11 +8,11 @@ use std::process::Command;
 
 use crate::{End, Files, Printed};
 
-/// Answers 0 to 14, then `cannot read`, a sheet, and a sheet with a number that outgrows.
-pub const ANSWERS: usize = 18;
-const CANNOT_READ: usize = 15;
-const SHEET: usize = 16;
-const OUTGROWN: usize = 17;
+/// Answers 0 to 15, then `cannot read`, a sheet, and a sheet with a number that outgrows.
+pub const ANSWERS: usize = 19;
+const CANNOT_READ: usize = 16;
+const SHEET: usize = 17;
+const OUTGROWN: usize = 18;
 
 /// What an answer is, for a reader.
 pub fn answer_name(answer: usize) -> String {
@@ -156,8 +156,8 @@ mod tests {
         let numbered =
             |line: &str| answer(format!("answer,place,second,count\n{line}\n").as_bytes());
         assert_eq!(numbered("0,0,0,3"), Some(0));
-        assert_eq!(numbered("14,7,0,0"), Some(14));
-        assert_eq!(numbered("15,0,0,0"), None);
+        assert_eq!(numbered("15,7,0,0"), Some(15));
+        assert_eq!(numbered("16,0,0,0"), None);
         assert_eq!(answer(b""), None);
         assert_eq!(answer(b"cannot read x, line 1: ..\n"), Some(CANNOT_READ));
         let sheet = "own bytes 1, largest packet 1, three packets 3\n";

@@ -27,6 +27,7 @@ pub use random::Random;
 pub use show::difference;
 pub use steady::steady_case;
 pub use tables::{
-    allowed_shares, even_table, fresh_identifier, greatest_share, random_table, Shape, SHAPES,
+    allowed_shares, even_table, fresh_identifier, greatest_share, random_table, same_on_air,
+    unknown_identifier, Shape, SHAPES,
 };
 pub use times::Times;

@@ -2,7 +2,7 @@
 
 use std::collections::BTreeSet;
 
-use second::{is_allowed, MOST_DEPTH, MOST_ROWS, WHOLE};
+use second::{is_allowed, MOST_DEPTH, MOST_IDENTIFIER, MOST_ROWS, WHOLE};
 
 use crate::{Random, Row};
 
@@ -232,16 +232,24 @@ fn identifiers(random: &mut Random) -> Vec<u32> {
     while names.len() < MOST_ROWS {
         let name = match style {
             0 => names.len() as u32 + 1,
-            1 => u32::MAX - names.len() as u32,
+            1 => MOST_IDENTIFIER - names.len() as u32,
             2 => random.between(1, 999) as u32,
             3 => near_power_of_ten(random),
-            _ => random.word(),
+            _ => any_identifier(random),
         };
-        if name != 0 && used.insert(name) {
+        if is_identifier(name) && used.insert(name) {
             names.push(name);
         }
     }
     names
+}
+
+fn is_identifier(name: u32) -> bool {
+    (1..=MOST_IDENTIFIER).contains(&name)
+}
+
+fn any_identifier(random: &mut Random) -> u32 {
+    random.between(1, MOST_IDENTIFIER as usize) as u32
 }
 
 /// Goes round below 0, so that the largest numbers come up too.
@@ -251,17 +259,41 @@ fn near_power_of_ten(random: &mut Random) -> u32 {
     power.wrapping_add(beside).wrapping_sub(60)
 }
 
-/// An identifier that no row has.
+fn is_free(rows: &[Row], name: u32) -> bool {
+    name != 0 && rows.iter().all(|r| r.identifier != name)
+}
+
+/// An identifier that no row has and that a row can be given.
 pub fn fresh_identifier(rows: &[Row], random: &mut Random) -> u32 {
     loop {
-        let name = match random.below(3) {
-            0 => near_power_of_ten(random),
-            _ => random.word(),
-        };
-        if name != 0 && rows.iter().all(|r| r.identifier != name) {
+        let name = any_identifier(random);
+        if is_free(rows, name) {
             return name;
         }
     }
+}
+
+/// A number above 0 that no row has as its identifier: half of the time one that a row has in its
+/// low 16 bits, and of the others some that no row can have.
+pub fn unknown_identifier(rows: &[Row], random: &mut Random) -> u32 {
+    loop {
+        let name = match random.below(6) {
+            0 => near_power_of_ten(random),
+            1 => any_identifier(random),
+            2 => random.word(),
+            _ => same_on_air(random.pick(rows).identifier, random),
+        };
+        if is_free(rows, name) {
+            return name;
+        }
+    }
+}
+
+/// A number over the largest identifier that has the same low 16 bits.
+pub fn same_on_air(identifier: u32, random: &mut Random) -> u32 {
+    let any = random.between(1, 0xffff) as u32;
+    let high = random.pick(&[1, 2, 1 << 8, 1 << 15, 0xffff, any]);
+    (high << 16) | (identifier & 0xffff)
 }
 
 #[cfg(test)]
@@ -351,7 +383,21 @@ mod tests {
 
     #[test]
     fn the_largest_identifier_comes_up() {
-        let is_largest = |row: &Row| row.identifier == u32::MAX;
+        let is_largest = |row: &Row| row.identifier == MOST_IDENTIFIER;
         assert!(tables(Shape::Any).flatten().any(|row| is_largest(&row)));
+    }
+
+    #[test]
+    fn unknown_identifiers_are_of_many_kinds() {
+        let rows = even_table(&[3]);
+        let mut random = Random::new(1, 1);
+        let names: Vec<u32> = (0..1000)
+            .map(|_| unknown_identifier(&rows, &mut random))
+            .collect();
+        let count = |is: fn(u32) -> bool| names.iter().filter(|name| is(**name)).count();
+        assert_eq!(count(|name| (1..=4).contains(&name)), 0);
+        assert!(count(|name| (1..=4).contains(&(name & 0xffff))) > 300);
+        assert!(count(is_identifier) > 100);
+        assert!(count(|name| name > MOST_IDENTIFIER) > 500);
     }
 }

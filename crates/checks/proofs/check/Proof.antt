@@ -101,7 +101,8 @@ check-list-requires c κs =
     let l = first-part r in
     let none = lengths-fine l (r .before .if1 .left) in
     let many = whole-listed (table l) (events l) (room l) none in
-    (whole-sized (table l) (events l) (room l) none .most, many .few, many .even)
+    let size = whole-sized (table l) (events l) (room l) none in
+    (size .some, size .most, many .few, many .even)
 
 stopping-requires-3 : tie.Need-stopping-requires-3
 stopping-requires-3 c κs = search needs

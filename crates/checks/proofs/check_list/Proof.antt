@@ -18,21 +18,21 @@ use Rattle.checks.proofs.check_list.Statement.{statement}
 use Rattle.checks.proofs.check_list.Tie as tie
 
 abbrev Inv-loop : tie.InvT-loop
-Inv-loop identifiers senders classes lengths rows₀ arrivals₀ finishes₀ i₀ rows arrivals finishes i =
+Inv-loop identifiers senders classes lengths on-air-rows rows₀ arrivals₀ finishes₀ i₀ rows arrivals finishes i =
     (i ≤ length classes) × (arrivals ≤ i) × (finishes ≤ i)
     × ((tree : Tree) → Known tree identifiers senders → Passed tree (events-of classes lengths) i rows arrivals finishes)
 
 abbrev μ-loop : tie.MeasureT-loop
-μ-loop identifiers senders classes lengths rows₀ arrivals₀ finishes₀ i₀ rows arrivals finishes i = length classes - i
+μ-loop identifiers senders classes lengths on-air-rows rows₀ arrivals₀ finishes₀ i₀ rows arrivals finishes i = length classes - i
 
 abbrev events : tie.Start Inv-loop μ-loop → Events
 events s = events-of (s .args .classes .now) (s .args .lengths .now)
 
 abbrev loop-at : tie.After-check-event Inv-loop μ-loop → tie.At-loop Inv-loop μ-loop
-loop-at d = d .before .before .before .before .before
+loop-at d = d .before .before .before .before .before .before
 
 abbrev start : tie.After-check-event Inv-loop μ-loop → tie.Start Inv-loop μ-loop
-start d = loop-at d .before .before .before .before
+start d = loop-at d .before .before .before .before .before
 
 -- what the call finds is what the event at the loop's place meets
 met : (d : tie.After-check-event Inv-loop μ-loop) (tree : Tree) → Known tree (start d .args .identifiers .now) (start d .args .senders .now)
@@ -43,12 +43,15 @@ met d tree known =
     let at = loop-at d .loop in
     subst
     (λ (e : Event). Meets tree (at .i) (length-word (events (start d)) (at .i)) e (leb (at .arrivals) (at .finishes)) (d .check-event .result))
-    (d .before .decode .ensures) (d .check-event .ensures tree known)
+    (d .before .before .decode .ensures) (d .check-event .ensures tree known)
+
+filed-requires : tie.Need-filed-requires Inv-loop μ-loop
+filed-requires c κs = search needs
 
 loop-holds : tie.Need-loop-holds Inv-loop μ-loop
 unfolding no-rows
 loop-holds c =
-    (omega arith, omega arith, omega arith, λ tree known. passed-none tree (events (c .before .before .before)) no-rows refl)
+    (omega arith, omega arith, omega arith, λ tree known. passed-none tree (events (c .before .before .before .before)) no-rows refl)
 
 mul-word : tie.Need-mul-word Inv-loop μ-loop
 mul-word c = search needs
@@ -113,7 +116,7 @@ loop-again c =
       omega (arith, c .before .one-arrival .ensures .1),
       omega (arith, c .one-finish .ensures .1),
       λ tree known.
-          rw (add-one, c .before .one-arrival .ensures .0, c .one-finish .ensures .0, d .before .decode .ensures)
+          rw (add-one, c .before .one-arrival .ensures .0, c .one-finish .ensures .0, d .before .before .decode .ensures)
           (passed-more tree (a .identifiers .now) (a .senders .now) known (events (start d)) (at .i) (at .rows) (at .arrivals)
           (at .finishes) (at .inv .3 tree known) (d .check-event .result) (met d tree known) (c .before .before .if1 .left)),
     )
@@ -124,7 +127,7 @@ none-requires c κs = search needs
 returns-2 : tie.Need-returns-2 Inv-loop μ-loop
 returns-2 c tree known =
     let at = c .before .before .loop in
-    let s = c .before .before .before .before .before .before in
+    let s = c .before .before .before .before .before .before .before in
     let end : at .i ≡ length (s .args .classes .now) = omega arith in
     let passed = at .inv .3 tree known in
     record {
@@ -135,6 +138,6 @@ returns-2 c tree known =
 pub check-list-spec : {M : Type 1} → statement M
 check-list-spec =
     tie.close
-    (tie.spec Inv-loop μ-loop loop-holds mul-word shared-slice-read-word mul-decode shared-slice-read-decode decode-requires
+    (tie.spec Inv-loop μ-loop filed-requires loop-holds mul-word shared-slice-read-word mul-decode shared-slice-read-decode decode-requires
     check-event-requires returns array-write-rows one-arrival-requires add-arrivals one-finish-requires add-finishes add-i loop-less
     loop-again none-requires returns-2)

@@ -4,7 +4,7 @@ use Prim.Native.Nat.{ℕ, _+_, _*_, _≤_, _<_}
 use mathlib.Core.Path.{_≡_, sym, _∙_, ap, subst}
 use mathlib.Core.Logic.{_≢_, _⊎_, inl, inr}
 use mathlib.Core.Bool.{Bool, true, false, cond, not}
-use mathlib.Core.List.{List}
+use mathlib.Core.List.{List, map}
 use native.Mathlib.Decide.{ℕ-discrete}
 use native.Mathlib.Omega.{arith}
 use lib.Dec.{eqb}
@@ -13,16 +13,19 @@ use lib.IntN.{pos}
 use borrow.Author.Tests.{ne-eqb}
 use Rattle.input.specs.declared.Event.the-variants.{Arrival}
 use Rattle.input.specs.Limits.{report-words, whole, packets-a-step}
-use Rattle.input.specs.Classes.{Tree, tree-of, row-of}
+use Rattle.input.specs.Classes.{Tree, tree-of, row-of, on-air}
 use Rattle.input.specs.Events.{Events, count, class-word, length-word, event}
+use Rattle.input.specs.Refusals.{table-refused}
 use Rattle.rules.specs.Box.{held-by}
 use Rattle.rules.specs.Steps.{after}
+use Rattle.rules.specs.Refused.{refused}
 use Rattle.rules.specs.Outcome.{Lent, Outcome, row-report, lag, room-of, Ran}
 use Rattle.rules.specs.Promise.{finish-count, arrived, largest, packets-for, bytes-for, finished, holds, Backlogged, line-most, Promised}
-use Rattle.laws.specs.Sound.{Sender}
+use Rattle.laws.specs.Sound.{ApartOnAir, Sender}
 use Rattle.laws.specs.History.{Accepted, LagSince, arrivals-of, only-for}
 use Rattle.laws.specs.Shorter.{cut}
-use Rattle.laws.proofs.tree.Trees.{accepted}
+use Rattle.laws.proofs.tree.Trees.{first-none, accepted}
+use Rattle.laws.proofs.tree.OnAir.{none-cut, apart-on-air}
 use Rattle.laws.proofs.event.Turns.{fewer}
 use Rattle.laws.proofs.run.History.{bytes-counted, held-counted, holds-held, order-grows, order-length, first-in-first-out, once}
 use Rattle.laws.proofs.run.Idle.{busy-is-held}
@@ -70,6 +73,20 @@ module _ (lent : Lent) (left : Outcome) (ran : Ran lent left) (done : left .answ
 
   lag-left : (r : ℕ) → r < tree .rows → getD (left .lags) r (pos 0) ≡ lag tree (after tree events all) r
   lag-left = lag-is lent left ran done
+
+  -- ── identifiers ──
+
+  table-fine : table-refused (lent .table) .number ≡ 0
+  unfolding refused
+  table-fine = first-none _ (not-refused lent left ran done) .1 .1 .1 .0
+
+  -- cut to its low 16 bits, each identifier of the table is what it was
+  pub none-cut-on-air : map on-air (lent .table .identifiers) ≡ lent .table .identifiers
+  none-cut-on-air = none-cut (lent .table) table-fine
+
+  -- so no two rows are one on the air
+  pub rows-apart-on-air : ApartOnAir (lent .table .identifiers)
+  rows-apart-on-air = apart-on-air (lent .table) table-fine
 
   -- ── the order ──
 

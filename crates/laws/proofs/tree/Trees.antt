@@ -191,9 +191,9 @@ class-fits :
 unfolding class-refused
 class-fits r identifier other parent share depth ok =
     let all = first-none _ ok in
-    let found = given-none (eqb parent r) _ _ (all .1 .1 .0) in
-    let share-ok = not-false (allowed share) (given-none _ _ _ (all .1 .1 .1 .0)) in
-    let shallow = given-none (ltb most-depth depth) _ _ (all .1 .1 .1 .1 .0) in
+    let found = given-none (eqb parent r) _ _ (all .1 .1 .1 .0) in
+    let share-ok = not-false (allowed share) (given-none _ _ _ (all .1 .1 .1 .1 .0)) in
+    let shallow = given-none (ltb most-depth depth) _ _ (all .1 .1 .1 .1 .1 .0) in
     (eqb-false parent r found, subst T (sym share-ok) tt, ltb-false most-depth depth shallow)
 
 -- a table that is not refused is read as a sound tree

@@ -36,15 +36,25 @@ returns-3 : tie.Need-returns-3
 unfolding root-refused first or-else given nothing
 returns-3 c = search tests
 
-none-requires : tie.Need-none-requires
-none-requires c κs = search needs
+shared-slice-read-if4 : tie.Need-shared-slice-read-if4
+shared-slice-read-if4 c = search needs
+
+refusal-requires-4 : tie.Need-refusal-requires-4
+refusal-requires-4 c κs = search needs
 
 returns-4 : tie.Need-returns-4
 unfolding root-refused first or-else given nothing
 returns-4 c = search tests
 
+none-requires : tie.Need-none-requires
+none-requires c κs = search needs
+
+returns-5 : tie.Need-returns-5
+unfolding root-refused first or-else given nothing
+returns-5 c = search tests
+
 pub root-refused-spec : {M : Type 1} → statement M
 root-refused-spec =
     tie.close
     (tie.spec shared-slice-read-if1 refusal-requires returns shared-slice-read-if2 refusal-requires-2 returns-2
-    shared-slice-read-if3 refusal-requires-3 returns-3 none-requires returns-4)
+    shared-slice-read-if3 refusal-requires-3 returns-3 shared-slice-read-if4 refusal-requires-4 returns-4 none-requires returns-5)

@@ -1,15 +1,16 @@
 //! Damages an accepted table or list so that it is refused with a given number.
 
-use second::{MOST_BYTES, MOST_DEPTH, MOST_EVENTS, MOST_ROWS, WHOLE};
+use second::{MOST_BYTES, MOST_DEPTH, MOST_EVENTS, MOST_IDENTIFIER, MOST_ROWS, WHOLE};
 use trials::{
-    allowed_shares, fresh_identifier, greatest_share, sending, Case, Event, Random, Row, FINISH,
+    allowed_shares, fresh_identifier, greatest_share, same_on_air, sending, unknown_identifier,
+    Case, Event, Random, Row, FINISH,
 };
 
 /// Rows that a table has at most before further ones are put in.
 const ROOM: usize = 240;
 
-/// All refusals but 3, which only a caller with short slices meets.
-pub const NUMBERS: [u32; 13] = [1, 2, 4, 5, 6, 7, 8, 9, 10, 11, 12, 13, 14];
+/// All refusals but 3, which only a caller with short slices meets, in the order of looking.
+pub const NUMBERS: [u32; 14] = [1, 2, 4, 15, 5, 6, 7, 8, 9, 10, 11, 12, 13, 14];
 
 /// Damages the case; `place` may be any number and says where, as far as there is a choice.
 pub fn damage(case: &mut Case, number: u32, place: usize, random: &mut Random) {
@@ -26,7 +27,8 @@ pub fn damage(case: &mut Case, number: u32, place: usize, random: &mut Random) {
         11 => no_class(case, place, random),
         12 => not_sending(case, place, random),
         13 => length(case, place, random),
-        _ => idle_finish(case, place),
+        14 => idle_finish(case, place),
+        _ => large_identifier(case, place, random),
     }
 }
 
@@ -37,12 +39,12 @@ pub fn damage_twice(case: &mut Case, random: &mut Random) {
         true => place,
         false => random.below(MOST_EVENTS),
     };
-    let mut numbers = [random.pick(&NUMBERS), random.pick(&NUMBERS)];
-    // The damage that takes rows away comes last.
-    numbers.sort_by(|a, b| b.cmp(a));
-    damage(case, numbers[0], place, random);
-    if numbers[0] != numbers[1] {
-        damage(case, numbers[1], other, random);
+    let mut turns = [random.below(NUMBERS.len()), random.below(NUMBERS.len())];
+    // The damage to identifiers comes after what needs them, and the one that takes rows away last.
+    turns.sort_by(|a, b| b.cmp(a));
+    damage(case, NUMBERS[turns[0]], place, random);
+    if turns[0] != turns[1] {
+        damage(case, NUMBERS[turns[1]], other, random);
     }
 }
 
@@ -91,6 +93,25 @@ fn no_identifier(case: &mut Case, place: usize, random: &mut Random) {
     case.rows[row].identifier = 0;
 }
 
+/// Half of the time it is one on the air with the row's own identifier or another row's.
+fn large_identifier(case: &mut Case, place: usize, random: &mut Random) {
+    let row = match random.one_in(4) {
+        true => 0,
+        false => class_row(case, place),
+    };
+    let other = random.pick(&case.rows).identifier;
+    let own = case.rows[row].identifier;
+    case.rows[row].identifier = match random.below(8) {
+        0 => MOST_IDENTIFIER + 1,
+        1 => u32::MAX,
+        // Nothing is left of it on the air.
+        2 => same_on_air(0, random),
+        3 => random.between(MOST_IDENTIFIER as usize + 1, u32::MAX as usize) as u32,
+        4 => same_on_air(own, random),
+        _ => same_on_air(other, random),
+    };
+}
+
 fn doubled(case: &mut Case, place: usize, random: &mut Random) {
     let row = class_row(case, place);
     case.rows[row].identifier = case.rows[random.below(row)].identifier;
@@ -112,7 +133,7 @@ fn parent(case: &mut Case, place: usize, random: &mut Random) {
         0 => 0,
         1 => case.rows[row].identifier,
         2 => case.rows[own_or_later].identifier,
-        _ => fresh_identifier(&case.rows, random),
+        _ => unknown_identifier(&case.rows, random),
     };
 }
 
@@ -193,7 +214,7 @@ fn arrival(case: &mut Case, place: usize) -> usize {
 
 fn no_class(case: &mut Case, place: usize, random: &mut Random) {
     let event = arrival(case, place);
-    case.events[event].class = fresh_identifier(&case.rows, random);
+    case.events[event].class = unknown_identifier(&case.rows, random);
 }
 
 fn not_sending(case: &mut Case, place: usize, random: &mut Random) {

@@ -20,7 +20,7 @@ use tally::Tally;
 use trials::{counted, difference, folders, Bench, Folder};
 
 const DEFAULT_SEED: u64 = 840;
-const DEFAULT_LISTS: usize = 3060;
+const DEFAULT_LISTS: usize = 3120;
 
 struct Settings {
     programs: [PathBuf; 2],

@@ -22,7 +22,7 @@ enum Kind {
 
 use Kind::{Accepted, Faulty, FaultySheet, NoEvents, Refused, Sheet, TwiceDamaged};
 
-const ROUND: [Kind; 51] = [
+const ROUND: [Kind; 52] = [
     Accepted(Shape::Flat),
     Accepted(Shape::Flat),
     Accepted(Shape::Chain),
@@ -57,6 +57,7 @@ const ROUND: [Kind; 51] = [
     Refused(12),
     Refused(13),
     Refused(14),
+    Refused(15),
     TwiceDamaged,
     TwiceDamaged,
     TwiceDamaged,
@@ -163,6 +164,7 @@ mod tests {
 
     use super::*;
     use crate::{DEFAULT_LISTS, DEFAULT_SEED};
+    use second::MOST_IDENTIFIER;
 
     fn accepted_cases() -> Vec<Case> {
         let case = |number| {
@@ -187,7 +189,7 @@ mod tests {
         let shares: BTreeSet<u32> = rows().map(|row| row.share).collect();
         // Besides the 95, the root's 0.
         assert_eq!(shares.len(), 96);
-        assert!(rows().any(|row| row.identifier == u32::MAX));
+        assert!(rows().any(|row| row.identifier == MOST_IDENTIFIER));
         assert!(cases.iter().any(|case| case.rows.len() == 2));
         assert!(cases.iter().any(|case| case.rows.len() == 256));
         assert!(cases.iter().any(|case| case.events.is_empty()));

@@ -23,7 +23,7 @@ pub enum Manner {
 }
 
 /// All refusals of a table.
-const REFUSALS: [u32; 8] = [1, 4, 5, 6, 7, 8, 9, 10];
+const REFUSALS: [u32; 9] = [1, 4, 5, 6, 7, 8, 9, 10, 15];
 
 /// Shares that do not divide 840, so that figures become fractions.
 const AWKWARD: [u32; 8] = [9, 25, 49, 64, 441, 576, 784, 800];

@@ -3,6 +3,7 @@
 
 mod equal;
 mod form;
+mod identifiers;
 mod long;
 mod plan;
 mod shares;

@@ -5,6 +5,7 @@ use std::fmt;
 use std::os::unix::ffi::OsStrExt;
 
 use crate::equal::equal_finishes;
+use crate::identifiers::all_identifiers;
 use crate::long::longest_packets;
 use crate::shares::all_shares;
 use crate::texts::{damaged, lengthened, Text};
@@ -58,6 +59,7 @@ pub fn trials() -> Vec<Trial> {
     all.extend(with_lists("equal finishes", equal_finishes()));
     all.extend(with_lists("longest packets", longest_packets()));
     all.extend(with_lists("share", all_shares()));
+    all.extend(with_lists("identifier", all_identifiers()));
     all.extend(numbers_of_arguments());
     all.extend(sheet_arguments());
     all
