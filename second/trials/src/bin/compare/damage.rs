@@ -93,22 +93,20 @@ fn no_identifier(case: &mut Case, place: usize, random: &mut Random) {
     case.rows[row].identifier = 0;
 }
 
-/// Half of the time it is one on the air with the row's own identifier or another row's.
+/// At times it is one on the air with the identifier of a row.
 fn large_identifier(case: &mut Case, place: usize, random: &mut Random) {
     let row = match random.one_in(4) {
         true => 0,
         false => class_row(case, place),
     };
-    let other = random.pick(&case.rows).identifier;
-    let own = case.rows[row].identifier;
+    let some_row = random.pick(&case.rows).identifier;
     case.rows[row].identifier = match random.below(8) {
-        0 => MOST_IDENTIFIER + 1,
-        1 => u32::MAX,
+        0 | 1 => MOST_IDENTIFIER + 1,
+        2 | 3 => u32::MAX,
         // Nothing is left of it on the air.
-        2 => same_on_air(0, random),
-        3 => random.between(MOST_IDENTIFIER as usize + 1, u32::MAX as usize) as u32,
-        4 => same_on_air(own, random),
-        _ => same_on_air(other, random),
+        4 => same_on_air(0, random),
+        5 => random.between(MOST_IDENTIFIER as usize + 1, u32::MAX as usize) as u32,
+        _ => same_on_air(some_row, random),
     };
 }
 

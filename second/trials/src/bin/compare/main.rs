@@ -4,6 +4,7 @@
 mod damage;
 mod edges;
 mod faults;
+mod identifiers;
 mod plan;
 mod sheets;
 mod tally;

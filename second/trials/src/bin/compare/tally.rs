@@ -1,6 +1,7 @@
 //! Counts what came of the lists.
 
 use crate::edges::Edges;
+use crate::identifiers::Identifiers;
 use second::Choices;
 use trials::{answer_name, Case, ANSWERS};
 
@@ -21,6 +22,7 @@ pub struct Tally {
     /// Those of the runs that are accepted.
     choices: Choices,
     edges: Edges,
+    identifiers: Identifiers,
     /// The lists on which the programs differ.
     pub differing: Vec<usize>,
 }
@@ -39,8 +41,12 @@ impl Tally {
             Ok(inside) => {
                 self.choices += inside.choices;
                 self.edges.add_accepted(case);
+                self.identifiers.add_accepted(case);
             }
-            Err(refusal) => self.edges.add_refused(case, refusal),
+            Err(refusal) => {
+                self.edges.add_refused(case, refusal);
+                self.identifiers.add_refused(case, refusal);
+            }
         }
     }
 
@@ -50,6 +56,7 @@ impl Tally {
         }
         self.choices += other.choices;
         self.edges += other.edges;
+        self.identifiers += other.identifiers;
         self.differing.extend(other.differing);
     }
 
@@ -57,7 +64,7 @@ impl Tally {
         self.counts.iter().sum()
     }
 
-    /// A line for each answer, one for the choices and one for the lengths.
+    /// A line for each answer, one for the choices, one for the lengths and one for identifiers.
     pub fn text(&self) -> String {
         let line = |(answer, count): (usize, &u64)| format!("{}: {count}\n", answer_name(answer));
         let answers: String = self.counts.iter().enumerate().map(line).collect();
@@ -68,8 +75,9 @@ impl Tally {
         } = self.choices;
         format!(
             "{answers}choices: {made}, decided by the place: {by_place}, \
-             of these not the lowest row: {not_lowest}\n{}",
-            self.edges.text()
+             of these not the lowest row: {not_lowest}\n{}{}",
+            self.edges.text(),
+            self.identifiers.text()
         )
     }
 
@@ -100,6 +108,7 @@ impl Tally {
         answers
             .chain(choices)
             .chain(self.edges.shortages())
+            .chain(self.identifiers.shortages())
             .collect()
     }
 }
@@ -122,14 +131,14 @@ mod tests {
         for answer in (0..ANSWERS).filter(|answer| *answer != NEVER) {
             tally.counts[answer] = WANTED;
         }
-        let of_edges = tally.edges.shortages();
-        assert_eq!(tally.shortages().len(), 2 + of_edges.len());
+        let others = [tally.edges.shortages(), tally.identifiers.shortages()].concat();
+        assert_eq!(tally.shortages().len(), 2 + others.len());
         tally.choices.by_place = WANTED_BY_PLACE;
         tally.choices.not_lowest = WANTED_NOT_LOWEST;
-        assert_eq!(tally.shortages(), of_edges);
+        assert_eq!(tally.shortages(), others);
         tally.counts[9] -= 1;
         tally.counts[NEVER] += 1;
-        assert_eq!(tally.shortages().len(), 2 + of_edges.len());
+        assert_eq!(tally.shortages().len(), 2 + others.len());
     }
 
     #[test]
@@ -152,6 +161,7 @@ mod tests {
         let text = tally.text();
         assert!(text.contains("choices: 2, "));
         assert!(text.contains("packets: 2, of length 1: 1, "));
-        assert!(text.ends_with("refused for length 9001: 1\n"));
+        assert!(text.contains("refused for length 9001: 1\n"));
+        assert!(text.ends_with("a class with a row's low bits: 0\n"));
     }
 }

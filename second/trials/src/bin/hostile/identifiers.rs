@@ -1,6 +1,8 @@
 //! Identifiers at the edges of what the modem sends, rows that would be one on the air, other
 //! refusals beside that of such a row, and every identifier that there can be.
 
+use std::collections::BTreeSet;
+
 use second::MOST_IDENTIFIER;
 use trials::{Case, Event, Row, FINISH};
 
@@ -49,7 +51,8 @@ fn edges() -> Vec<(String, Case)> {
             list(format!("{number} of the root"), &root, 10),
         ]
     };
-    numbers.chain([u32::MAX]).flat_map(both).collect()
+    let numbers: BTreeSet<u32> = numbers.chain([u32::MAX]).collect();
+    numbers.into_iter().flat_map(both).collect()
 }
 
 /// A number that is 10 in its low 16 bits as another row's identifier, before and after class 10,
@@ -133,19 +136,22 @@ fn each_once() -> Vec<(String, Case)> {
         };
         (format!("{CLASSES} from {first} on"), case)
     };
-    (1..=MOST_IDENTIFIER).step_by(CLASSES as usize).map(table).collect()
+    (1..=MOST_IDENTIFIER)
+        .step_by(CLASSES as usize)
+        .map(table)
+        .collect()
 }
 
 #[cfg(test)]
 mod tests {
-    use std::collections::BTreeSet;
-
     use super::*;
 
     fn answers(lists: Vec<(String, Case)>) -> Vec<(u32, u32)> {
         let answer = |(_, case): (String, Case)| case.answer();
         let answers = lists.into_iter().map(answer);
-        answers.map(|answer| (answer.number, answer.place)).collect()
+        answers
+            .map(|answer| (answer.number, answer.place))
+            .collect()
     }
 
     #[test]

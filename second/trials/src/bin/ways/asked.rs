@@ -1,7 +1,7 @@
-//! What the ways are asked: shares, and tables of 255 classes.
+//! What the ways are asked: shares, tables of 255 classes, and lists.
 
 use second::WHOLE;
-use trials::{allowed_shares, even_table, Case, Random, Row};
+use trials::{allowed_shares, even_table, steady_case, Case, Random, Row};
 
 /// How many shares a slice has, unless it has each of them once.
 const SHARES: usize = 4096;
@@ -48,6 +48,17 @@ pub fn tables() -> [(&'static str, Vec<Row>); 3] {
     ]
 }
 
+/// Lists over flat tables, and what they are.
+pub fn lists() -> [(&'static str, Case); 5] {
+    [
+        ("255 classes, 65,536 events", steady_case(&[255], 65_536)),
+        ("16 classes, 65,536 events", steady_case(&[16], 65_536)),
+        ("1 class, 65,536 events", steady_case(&[1], 65_536)),
+        ("255 classes, 1,024 events", steady_case(&[255], 1024)),
+        ("255 classes, 1 event", steady_case(&[255], 1)),
+    ]
+}
+
 /// What refuses such a table.
 pub fn answer(rows: Vec<Row>) -> u32 {
     let events = Vec::new();
@@ -72,9 +83,28 @@ fn chains() -> Vec<Row> {
         .collect()
 }
 
+/// The row of an event's class, 0 for a finish; the largest number where the list is refused.
+pub fn row(case: &Case, event: usize) -> u32 {
+    let class = case.events[event].class;
+    let place = case.rows.iter().position(|row| row.identifier == class);
+    match case.answer().number {
+        0 => place.unwrap_or(0) as u32,
+        _ => u32::MAX,
+    }
+}
+
 #[cfg(test)]
 mod tests {
     use super::*;
+
+    #[test]
+    fn rows_of_events_are_found() {
+        let [(_, case), ..] = lists();
+        assert_eq!([0, 1, 65_535].map(|event| row(&case, event)), [1, 2, 0]);
+        for (name, case) in lists() {
+            assert_eq!(case.answer().number, 0, "{name}");
+        }
+    }
 
     #[test]
     fn tables_have_255_classes_and_the_last_alone_is_refused() {

@@ -1,11 +1,11 @@
-//! The ways to test a share: proved libraries that are linked, and plain Rust.
+//! The ways as proved libraries that are linked, and plain Rust.
 #![allow(unsafe_code)]
 
 use std::arch::global_asm;
 use std::hint::black_box;
 
 use second::is_allowed;
-use trials::Row;
+use trials::{Case, Row};
 
 // So many bytes before the code of the libraries, so that it comes to lie elsewhere.
 global_asm!(
@@ -19,20 +19,22 @@ extern "C" {
     fn ways_room();
 }
 
+// ── to test a share ──
+
 type Allowed = unsafe extern "C" fn(u32) -> bool;
 type Odd = unsafe extern "C" fn(*const u32, usize) -> bool;
 type Refused = unsafe extern "C" fn(*const u32, usize, *const u32, usize, *const u32, usize) -> u32;
 
 /// The functions of one library. They ask nothing of their arguments but that a pointer and
 /// the number after it are a slice's.
-pub struct Way {
+pub struct ShareWay {
     pub name: &'static str,
     allowed: Allowed,
     odd: Odd,
     refused: Refused,
 }
 
-macro_rules! way {
+macro_rules! share_way {
     ($name:literal, $library:literal, $allowed:ident, $odd:ident, $refused:ident) => {{
         #[link(name = $library, kind = "static")]
         extern "C" {
@@ -47,7 +49,7 @@ macro_rules! way {
                 shares_count: usize,
             ) -> u32;
         }
-        Way {
+        ShareWay {
             name: $name,
             allowed: $allowed,
             odd: $odd,
@@ -58,17 +60,17 @@ macro_rules! way {
 
 /// The walk first, the test as it stands last.
 #[rustfmt::skip]
-pub fn ways() -> [Way; 4] {
+pub fn share_ways() -> [ShareWay; 4] {
     black_box(ways_room as *const ());
     [
-        way!("walk", "way_walk", way_walk_allowed, way_walk_odd, way_walk_refused),
-        way!("remainder", "way_remainder", way_remainder_allowed, way_remainder_odd, way_remainder_refused),
-        way!("array", "way_array", way_array_allowed, way_array_odd, way_array_refused),
-        way!("as it stands", "way_marks", way_marks_allowed, way_marks_odd, way_marks_refused),
+        share_way!("walk", "way_walk", way_walk_allowed, way_walk_odd, way_walk_refused),
+        share_way!("remainder", "way_remainder", way_remainder_allowed, way_remainder_odd, way_remainder_refused),
+        share_way!("array", "way_array", way_array_allowed, way_array_odd, way_array_refused),
+        share_way!("as it stands", "way_marks", way_marks_allowed, way_marks_odd, way_marks_refused),
     ]
 }
 
-impl Way {
+impl ShareWay {
     pub fn allowed(&self, share: u32) -> bool {
         unsafe { (self.allowed)(share) }
     }
@@ -94,7 +96,7 @@ impl Way {
     }
 }
 
-/// What `Way::odd` is in plain Rust.
+/// What `ShareWay::odd` is in plain Rust.
 #[inline(never)]
 pub fn plain_odd(shares: &[u32]) -> bool {
     shares.iter().fold(false, |odd, s| odd != is_allowed(*s))
@@ -111,5 +113,92 @@ impl Columns {
             column(|r| r.parent),
             column(|r| r.share),
         ])
+    }
+}
+
+// ── to find the row of an event's class ──
+
+#[rustfmt::skip]
+type FoundRow = unsafe extern "C" fn(
+    *const u32, usize, *const u32, usize, *const u32, usize, *const u32, usize, *const u32, usize, u32,
+) -> u32;
+
+/// The check of a whole input by one library, which asks as little.
+pub struct RowWay {
+    pub name: &'static str,
+    row: FoundRow,
+}
+
+macro_rules! row_way {
+    ($name:literal, $library:literal, $row:ident) => {{
+        #[link(name = $library, kind = "static")]
+        extern "C" {
+            fn $row(
+                identifiers: *const u32,
+                rows: usize,
+                parents: *const u32,
+                parents_count: usize,
+                shares: *const u32,
+                shares_count: usize,
+                classes: *const u32,
+                events: usize,
+                lengths: *const u32,
+                lengths_count: usize,
+                event: u32,
+            ) -> u32;
+        }
+        RowWay {
+            name: $name,
+            row: $row,
+        }
+    }};
+}
+
+/// The search first, the look-up as it stands last.
+pub fn row_ways() -> [RowWay; 2] {
+    [
+        row_way!("search", "way_search", way_search_row),
+        row_way!("as it stands", "way_filed", way_filed_row),
+    ]
+}
+
+impl RowWay {
+    /// The row that the check finds for an event; the largest number where it refuses.
+    pub fn row(&self, input: &Input, event: u32) -> u32 {
+        let [identifiers, parents, shares] = &input.table.0;
+        let [classes, lengths] = &input.events;
+        unsafe {
+            (self.row)(
+                identifiers.as_ptr(),
+                identifiers.len(),
+                parents.as_ptr(),
+                parents.len(),
+                shares.as_ptr(),
+                shares.len(),
+                classes.as_ptr(),
+                classes.len(),
+                lengths.as_ptr(),
+                lengths.len(),
+                event,
+            )
+        }
+    }
+}
+
+/// A table with a list, which is two slices: classes, lengths.
+pub struct Input {
+    table: Columns,
+    events: [Vec<u32>; 2],
+}
+
+impl Input {
+    pub fn of(case: &Case) -> Input {
+        Input {
+            table: Columns::of(&case.rows),
+            events: [
+                case.events.iter().map(|e| e.class).collect(),
+                case.events.iter().map(|e| e.length).collect(),
+            ],
+        }
     }
 }
