@@ -25,7 +25,8 @@ pub fn filed(identifiers: &[u32]) -> OnAirRows
     rows
 }
 
-// The row of the class with this identifier; the number of rows where there is none. A class that no row has may be filed where a row is.
+// The row of the class with this identifier; the number of rows where there is none. What is filed where the class would be may be another
+// row, or row 0 for want of any, so its identifier is looked at.
 pub fn row_of(identifiers: &[u32], rows: &OnAirRows, class: u32) -> usize
     requires { ⌜ AllFiled (now identifiers) (now rows) ⌝ }
     ensures { λ r. ⌜ (ApartOnAir (now (identifiers .entry)) → Finds (now (identifiers .entry)) class r) × (r ≤ length (now (identifiers .entry))) ⌝ }

@@ -5,7 +5,7 @@ use trials::{lines, Random};
 /// Bytes that such files are made of, and some that they are not.
 const COMMON: &[u8] = b"0123456789012345678901234567890123456789,,,,,,\n\n\n\r \t-+x\0\xff";
 
-const NUMBERS: [&str; 16] = [
+const NUMBERS: [&str; 18] = [
     "0",
     "1",
     "840",
@@ -14,7 +14,9 @@ const NUMBERS: [&str; 16] = [
     "2049",
     "9000",
     "9001",
+    "65535",
     "65536",
+    "65537",
     "705600",
     "2147483648",
     "4294967295",
