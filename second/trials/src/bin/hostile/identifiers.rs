@@ -6,17 +6,26 @@ use std::collections::BTreeSet;
 use second::MOST_IDENTIFIER;
 use trials::{Case, Event, Row, FINISH};
 
-const ROOT: Row = row(1, 0, 0);
-
 /// One more than the largest identifier.
 const LARGE: u32 = MOST_IDENTIFIER + 1;
+
+const ROOT: Row = row(1, 0, 0);
+const TEN: Row = row(10, 1, 420);
+const TOO_LARGE: Row = row(LARGE, 1, 1);
 
 /// Classes of a full table.
 const CLASSES: u32 = 255;
 
 /// Each list and what it is.
 pub fn all_identifiers() -> Vec<(String, Case)> {
-    [edges(), one_on_air(), beside_others(), each_once()].concat()
+    [
+        edges(),
+        one_on_air(),
+        before_and_after(),
+        with_others(),
+        each_once(),
+    ]
+    .concat()
 }
 
 const fn row(identifier: u32, parent: u32, share: u32) -> Row {
@@ -44,7 +53,7 @@ fn edges() -> Vec<(String, Case)> {
         [power - 1, power, power + 1]
     });
     let both = |number| {
-        let class = [ROOT, row(10, 1, 420), row(number, 1, 420)];
+        let class = [ROOT, TEN, row(number, 1, 420)];
         let root = [row(number, 0, 0), row(10, number, 420)];
         [
             list(format!("{number} of a class"), &class, number),
@@ -60,24 +69,23 @@ fn edges() -> Vec<(String, Case)> {
 fn one_on_air() -> Vec<(String, Case)> {
     let all = |high: u32| {
         let number = (high << 16) + 10;
-        let [ten, other] = [row(10, 1, 420), row(number, 1, 420)];
+        let other = row(number, 1, 420);
         let root = [row(number, 0, 0), row(10, number, 420)];
-        let parent = [ROOT, ten, row(20, number, 420)];
+        let parent = [ROOT, TEN, row(20, number, 420)];
         [
-            list(format!("10, {number}"), &[ROOT, ten, other], 10),
-            list(format!("{number}, 10"), &[ROOT, other, ten], 10),
+            list(format!("10, {number}"), &[ROOT, TEN, other], 10),
+            list(format!("{number}, 10"), &[ROOT, other, TEN], 10),
             list(format!("10 under the root {number}"), &root, 10),
             list(format!("parent {number}"), &parent, 20),
-            list(format!("a packet for {number}"), &[ROOT, ten], number),
+            list(format!("a packet for {number}"), &[ROOT, TEN], number),
         ]
     };
     let highs = [1, 2, 0x100, 0x7fff, 0x8000, 0xffff];
     highs.into_iter().flat_map(all).collect()
 }
 
-/// Each other refusal of a table or an event before such a row, after it, and in it where it can be.
-fn beside_others() -> Vec<(String, Case)> {
-    let large = row(LARGE, 1, 1);
+/// Each other refusal of a row or of the sums, before such a row and after it.
+fn before_and_after() -> Vec<(String, Case)> {
     let others = [
         (4, row(0, 1, 1)),
         (5, row(1, 1, 1)),
@@ -86,32 +94,33 @@ fn beside_others() -> Vec<(String, Case)> {
         (10, row(20, 1, 840)),
         (15, row(LARGE + 1, 1, 1)),
     ];
-    let ten = row(10, 1, 420);
-    let mut all = Vec::new();
-    for (number, other) in others {
-        let rows = [ROOT, ten, other, large];
-        all.push(list(format!("{number} before 15"), &rows, 10));
-        let rows = [ROOT, ten, large, other];
-        all.push(list(format!("15 before {number}"), &rows, 10));
-    }
-    let in_it = [
-        (5, large),
-        (7, row(LARGE, 99, 1)),
-        (8, row(LARGE, 1, 11)),
-        (10, row(LARGE, 1, 840)),
+    let both = |(number, other)| {
+        let before = [ROOT, TEN, other, TOO_LARGE];
+        let after = [ROOT, TEN, TOO_LARGE, other];
+        [
+            list(format!("{number} before 15"), &before, 10),
+            list(format!("15 before {number}"), &after, 10),
+        ]
+    };
+    others.into_iter().flat_map(both).collect()
+}
+
+/// Such a row by itself, with another refusal in it, as the root, and before an event's.
+fn with_others() -> Vec<(String, Case)> {
+    let class = |row| vec![ROOT, TEN, row];
+    let root = vec![row(LARGE, 3, 5), row(10, LARGE, 420)];
+    let lists = [
+        ("15", class(TOO_LARGE), 10),
+        ("15 and 7", class(row(LARGE, 99, 1)), 10),
+        ("15 and 8", class(row(LARGE, 1, 11)), 10),
+        ("15 and 10", class(row(LARGE, 1, 840)), 10),
+        ("15 and 5", vec![ROOT, TEN, TOO_LARGE, TOO_LARGE], 10),
+        ("15 and 6", root, 10),
+        ("15 and 9", too_deep(), 10),
+        ("15 and 11", vec![ROOT, TOO_LARGE], 77),
     ];
-    for (number, both) in in_it {
-        let rows = [ROOT, ten, both];
-        all.push(list(format!("15 and {number} in a row"), &rows, 10));
-    }
-    let twice = [ROOT, ten, large, large];
-    all.push(list("15 and 5, twice the same".to_string(), &twice, 10));
-    let root = [row(LARGE, 3, 5), row(10, LARGE, 420)];
-    all.push(list("15 and 6 of the root".to_string(), &root, 10));
-    let deep = too_deep();
-    all.push(list("15 and 9 in a row".to_string(), &deep, 10));
-    all.push(list("15 before 11".to_string(), &[ROOT, large], 77));
-    all
+    let listed = |(name, rows, class): (&str, Vec<Row>, u32)| list(name.to_string(), &rows, class);
+    lists.into_iter().map(listed).collect()
 }
 
 /// A chain to depth 9, whose last row has too large an identifier.
@@ -177,8 +186,7 @@ mod tests {
 
     #[test]
     fn other_refusals_come_before_and_after() {
-        let found = answers(beside_others());
-        let pairs: [[(u32, u32); 2]; 6] = [
+        let expected: [[(u32, u32); 2]; 6] = [
             [(4, 2), (15, 2)],
             [(5, 2), (15, 2)],
             [(7, 2), (15, 2)],
@@ -186,10 +194,9 @@ mod tests {
             [(15, 3), (15, 2)],
             [(15, 2), (15, 2)],
         ];
-        let pairs = pairs.concat();
-        assert_eq!(found[..pairs.len()], pairs);
+        assert_eq!(answers(before_and_after()), expected.concat());
         let expected = [2, 2, 2, 2, 2, 0, 9, 1].map(|place| (15, place));
-        assert_eq!(found[pairs.len()..], expected);
+        assert_eq!(answers(with_others()), expected);
     }
 
     #[test]

@@ -163,6 +163,11 @@ pub fn row_ways() -> [RowWay; 2] {
 }
 
 impl RowWay {
+    /// The row that the check finds for the first event.
+    pub fn first_row(&self, input: &Input) -> u32 {
+        self.row(input, 0)
+    }
+
     /// The row that the check finds for an event; the largest number where it refuses.
     pub fn row(&self, input: &Input, event: u32) -> u32 {
         let [identifiers, parents, shares] = &input.table.0;

@@ -37,16 +37,8 @@ fn main() -> ExitCode {
 }
 
 fn done(arguments: &[&str]) -> Result<()> {
-    let (of_shares, of_rows) = (share_ways(), row_ways());
-    let shares = asked::shares();
-    let columns = asked::tables().map(|(name, rows)| (name, Columns::of(&rows)));
-    let lists = asked::lists();
-    let inputs: Vec<Input> = lists.iter().map(|(_, case)| Input::of(case)).collect();
-    let tables = [
-        share_tests(&of_shares, &shares),
-        table_checks(&of_shares, &columns),
-        list_checks(&of_rows, &lists, &inputs),
-    ];
+    let everything = Everything::new();
+    let tables = everything.tables();
     match *arguments {
         ["time", runs] => print_times(&tables, some(runs)?),
         ["work", table, asked, way, rounds] => {
@@ -58,8 +50,8 @@ fn done(arguments: &[&str]) -> Result<()> {
         }
         [runs, ref programs @ ..] if !programs.is_empty() => {
             some(runs)?;
-            let wrong = share_wrong(&of_shares).or_else(|| row_wrong(&of_rows, &lists, &inputs));
-            if let Some(wrong) = wrong {
+            let wrong = share_wrong(&everything.share_ways);
+            if let Some(wrong) = wrong.or_else(|| row_wrong(&everything.row_ways)) {
                 return Err(Error::other(wrong));
             }
             println!(
@@ -86,6 +78,39 @@ fn some(text: &str) -> Result<usize> {
 
 // ── what is timed ──
 
+/// The ways and what they are asked.
+struct Everything {
+    share_ways: [ShareWay; 4],
+    row_ways: [RowWay; 2],
+    shares: [(&'static str, Vec<u32>); 5],
+    tables: [(&'static str, Columns); 3],
+    inputs: [(&'static str, Input); 5],
+}
+
+impl Everything {
+    fn new() -> Everything {
+        Everything {
+            share_ways: share_ways(),
+            row_ways: row_ways(),
+            shares: asked::shares(),
+            tables: asked::tables().map(|(name, rows)| (name, Columns::of(&rows))),
+            inputs: asked::lists().map(|(name, case)| (name, Input::of(&case))),
+        }
+    }
+
+    fn tables(&self) -> [Table<'_>; 3] {
+        let share_ways = (&self.share_ways[..], (|way| way.name) as fn(&ShareWay) -> _);
+        let row_ways = (&self.row_ways[..], (|way| way.name) as fn(&RowWay) -> _);
+        let table = ["The check of a table of 255 classes", "Table"];
+        let input = ["The check of a flat table with a list", "Input"];
+        [
+            share_tests(&self.share_ways, &self.shares),
+            checks(table, share_ways, &self.tables, ShareWay::refused),
+            checks(input, row_ways, &self.inputs, RowWay::first_row),
+        ]
+    }
+}
+
 fn share_tests<'a>(ways: &'a [ShareWay], shares: &'a [(&'static str, Vec<u32>)]) -> Table<'a> {
     let asked = |(name, shares): &'a (&'static str, Vec<u32>)| {
         let by = |way: &'a ShareWay| -> Work { Box::new(|| way.odd(black_box(shares)).into()) };
@@ -98,7 +123,8 @@ fn share_tests<'a>(ways: &'a [ShareWay], shares: &'a [(&'static str, Vec<u32>)])
     };
     let names = ways.iter().map(|way| way.name);
     Table {
-        title: "One test of a share, in nanoseconds, in a loop over a slice",
+        title: "One test of a share in a loop over a slice",
+        unit_name: "nanoseconds",
         first: "Shares",
         columns: names.chain(["plain Rust"]).collect(),
         ways: ways.len(),
@@ -108,33 +134,15 @@ fn share_tests<'a>(ways: &'a [ShareWay], shares: &'a [(&'static str, Vec<u32>)])
     }
 }
 
-fn table_checks<'a>(ways: &'a [ShareWay], tables: &'a [(&'static str, Columns)]) -> Table<'a> {
-    let asked = |(name, table): &'a (&'static str, Columns)| {
-        let by = |way: &'a ShareWay| -> Work { Box::new(|| way.refused(black_box(table)).into()) };
-        Asked {
-            name,
-            answers: 1,
-            works: ways.iter().map(by).collect(),
-        }
-    };
-    Table {
-        title: "The check of a table of 255 classes, in microseconds",
-        first: "Table",
-        columns: ways.iter().map(|way| way.name).collect(),
-        ways: ways.len(),
-        unit: 1e6,
-        counted: true,
-        asked: tables.iter().map(asked).collect(),
-    }
-}
-
-fn list_checks<'a>(
-    ways: &'a [RowWay],
-    lists: &'a [(&'static str, Case)],
-    inputs: &'a [Input],
+/// The check of each input by each way.
+fn checks<'a, W, I>(
+    [title, first]: [&'static str; 2],
+    (ways, way_name): (&'a [W], fn(&W) -> &'static str),
+    inputs: &'a [(&'static str, I)],
+    check: fn(&W, &I) -> u32,
 ) -> Table<'a> {
-    let asked = |((name, _), input): (&'a (&'static str, Case), &'a Input)| {
-        let by = |way: &'a RowWay| -> Work { Box::new(|| way.row(black_box(input), 0).into()) };
+    let asked = |(name, input): &'a (&'static str, I)| {
+        let by = |way: &'a W| -> Work { Box::new(move || check(way, black_box(input)).into()) };
         Asked {
             name,
             answers: 1,
@@ -142,13 +150,14 @@ fn list_checks<'a>(
         }
     };
     Table {
-        title: "The check of a flat table with a list, in microseconds",
-        first: "Input",
-        columns: ways.iter().map(|way| way.name).collect(),
+        title,
+        unit_name: "microseconds",
+        first,
+        columns: ways.iter().map(way_name).collect(),
         ways: ways.len(),
         unit: 1e6,
         counted: true,
-        asked: lists.iter().zip(inputs).map(asked).collect(),
+        asked: inputs.iter().map(asked).collect(),
     }
 }
 
@@ -177,15 +186,15 @@ fn share_wrong(ways: &[ShareWay]) -> Option<String> {
 }
 
 /// The first list of which a way finds another row than plain Rust does, for some of its events.
-fn row_wrong(ways: &[RowWay], lists: &[(&str, Case)], inputs: &[Input]) -> Option<String> {
-    let differs = |way: &RowWay, case: &Case, input: &Input| {
+fn row_wrong(ways: &[RowWay]) -> Option<String> {
+    let differs = |way: &RowWay, case: &Case| {
+        let input = Input::of(case);
         let some = (0..case.events.len()).step_by(1 + case.events.len() / 20);
         some.into_iter()
-            .any(|event| way.row(input, event as u32) != asked::row(case, event))
+            .any(|event| way.row(&input, event as u32) != asked::row(case, event))
     };
-    let mut all = lists.iter().zip(inputs);
-    all.find_map(|((name, case), input)| {
-        let way = ways.iter().find(|way| differs(way, case, input))?;
+    asked::lists().into_iter().find_map(|(name, case)| {
+        let way = ways.iter().find(|way| differs(way, &case))?;
         Some(format!("{}: a wrong row over the list {name}", way.name))
     })
 }

@@ -17,6 +17,7 @@ pub struct Asked<'a> {
 /// One table. Of its columns the first is what stood before; those that are no ways stand last.
 pub struct Table<'a> {
     pub title: &'static str,
+    pub unit_name: &'static str,
     pub first: &'static str,
     pub columns: Vec<&'static str>,
     pub ways: usize,
@@ -46,7 +47,10 @@ pub fn print_tables(tables: &[Table], runs: &str, programs: &[&str]) -> Result<(
     let best_of = format!("best of {runs} runs of each of {} programs", programs.len());
     let mut best = best.iter();
     for (number, table) in tables.iter().enumerate() {
-        println!("\n{}: the {best_of}.\n", table.title);
+        println!(
+            "\n{}, in {}: the {best_of}.\n",
+            table.title, table.unit_name
+        );
         print_heading(table, table.columns.len());
         for (asked, times) in table.asked.iter().zip(&mut best) {
             print_line(asked.name, times, table.unit, table.ways);
