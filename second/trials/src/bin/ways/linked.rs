@@ -19,19 +19,30 @@ extern "C" {
     fn ways_room();
 }
 
+/// A slice as the libraries take it: C passes its two words one after the other.
+#[repr(C)]
+struct Slice {
+    words: *const u32,
+    count: usize,
+}
+
+impl Slice {
+    fn of(words: &[u32]) -> Slice {
+        Slice {
+            words: words.as_ptr(),
+            count: words.len(),
+        }
+    }
+}
+
 // ── to test a share ──
 
-type Allowed = unsafe extern "C" fn(u32) -> bool;
-type Odd = unsafe extern "C" fn(*const u32, usize) -> bool;
-type Refused = unsafe extern "C" fn(*const u32, usize, *const u32, usize, *const u32, usize) -> u32;
-
-/// The functions of one library. They ask nothing of their arguments but that a pointer and
-/// the number after it are a slice's.
+/// The functions of one library. They ask nothing of their arguments but that a slice is one.
 pub struct ShareWay {
     pub name: &'static str,
-    allowed: Allowed,
-    odd: Odd,
-    refused: Refused,
+    allowed: unsafe extern "C" fn(u32) -> bool,
+    odd: unsafe extern "C" fn(Slice) -> bool,
+    refused: unsafe extern "C" fn(Slice, Slice, Slice) -> u32,
 }
 
 macro_rules! share_way {
@@ -39,15 +50,8 @@ macro_rules! share_way {
         #[link(name = $library, kind = "static")]
         extern "C" {
             fn $allowed(share: u32) -> bool;
-            fn $odd(shares: *const u32, count: usize) -> bool;
-            fn $refused(
-                identifiers: *const u32,
-                rows: usize,
-                parents: *const u32,
-                parents_count: usize,
-                shares: *const u32,
-                shares_count: usize,
-            ) -> u32;
+            fn $odd(shares: Slice) -> bool;
+            fn $refused(identifiers: Slice, parents: Slice, shares: Slice) -> u32;
         }
         ShareWay {
             name: $name,
@@ -77,22 +81,13 @@ impl ShareWay {
 
     /// Whether an odd number of these shares is allowed.
     pub fn odd(&self, shares: &[u32]) -> bool {
-        unsafe { (self.odd)(shares.as_ptr(), shares.len()) }
+        unsafe { (self.odd)(Slice::of(shares)) }
     }
 
     /// The number of what refuses the table, 0 where nothing does.
     pub fn refused(&self, table: &Columns) -> u32 {
-        let [identifiers, parents, shares] = &table.0;
-        unsafe {
-            (self.refused)(
-                identifiers.as_ptr(),
-                identifiers.len(),
-                parents.as_ptr(),
-                parents.len(),
-                shares.as_ptr(),
-                shares.len(),
-            )
-        }
+        let [identifiers, parents, shares] = table.slices();
+        unsafe { (self.refused)(identifiers, parents, shares) }
     }
 }
 
@@ -114,19 +109,18 @@ impl Columns {
             column(|r| r.share),
         ])
     }
+
+    fn slices(&self) -> [Slice; 3] {
+        self.0.each_ref().map(|column| Slice::of(column))
+    }
 }
 
 // ── to find the row of an event's class ──
 
-#[rustfmt::skip]
-type FoundRow = unsafe extern "C" fn(
-    *const u32, usize, *const u32, usize, *const u32, usize, *const u32, usize, *const u32, usize, u32,
-) -> u32;
-
 /// The check of a whole input by one library, which asks as little.
 pub struct RowWay {
     pub name: &'static str,
-    row: FoundRow,
+    row: unsafe extern "C" fn(Slice, Slice, Slice, Slice, Slice, u32) -> u32,
 }
 
 macro_rules! row_way {
@@ -134,16 +128,11 @@ macro_rules! row_way {
         #[link(name = $library, kind = "static")]
         extern "C" {
             fn $row(
-                identifiers: *const u32,
-                rows: usize,
-                parents: *const u32,
-                parents_count: usize,
-                shares: *const u32,
-                shares_count: usize,
-                classes: *const u32,
-                events: usize,
-                lengths: *const u32,
-                lengths_count: usize,
+                identifiers: Slice,
+                parents: Slice,
+                shares: Slice,
+                classes: Slice,
+                lengths: Slice,
                 event: u32,
             ) -> u32;
         }
@@ -170,23 +159,9 @@ impl RowWay {
 
     /// The row that the check finds for an event; the largest number where it refuses.
     pub fn row(&self, input: &Input, event: u32) -> u32 {
-        let [identifiers, parents, shares] = &input.table.0;
-        let [classes, lengths] = &input.events;
-        unsafe {
-            (self.row)(
-                identifiers.as_ptr(),
-                identifiers.len(),
-                parents.as_ptr(),
-                parents.len(),
-                shares.as_ptr(),
-                shares.len(),
-                classes.as_ptr(),
-                classes.len(),
-                lengths.as_ptr(),
-                lengths.len(),
-                event,
-            )
-        }
+        let [identifiers, parents, shares] = input.table.slices();
+        let [classes, lengths] = input.events.each_ref().map(|column| Slice::of(column));
+        unsafe { (self.row)(identifiers, parents, shares, classes, lengths, event) }
     }
 }
 
