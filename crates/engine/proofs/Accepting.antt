@@ -14,10 +14,10 @@ use borrow.Author.Tests.{eqb-true, ltb-false, not-false}
 use Rattle.input.specs.Limits.{most-rows, most-depth, whole, report-words}
 use Rattle.input.specs.Classes.{Table, Tree, zeros, with-row, read, tree-of, earlier, parent-of, share}
 use Rattle.input.specs.Events.{Events, count}
-use Rattle.input.specs.Refusals.{Room, nothing, first, first-below, rows-refused, events-refused, room-refused, root-refused, row-refused, shares-refused, table-refused}
+use Rattle.input.specs.Refusals.{Room, nothing, first, rows-refused, events-refused, room-refused, root-refused, row-refused, table-refused}
 use Rattle.rules.specs.Refused.{refused}
 use Rattle.laws.specs.Sound.{Sound}
-use Rattle.laws.proofs.tree.Trees.{share-whole, or-none, first-none, below-none, given-none, place-most, tree-rows, tree-names, parent-at, share-at, accepted}
+use Rattle.laws.proofs.tree.Trees.{share-whole, first-none, given-none, place-most, tree-rows, tree-names, parent-at, share-at, row-passes, table-passes, accepted}
 use Rattle.laws.proofs.event.Outset.{zeros-at}
 use Rattle.report.specs.Shown.{Sending}
 use Rattle.tables.specs.Sized.{Sized}
@@ -125,8 +125,7 @@ module _ (table : Table) (events : Events) (room : Room) (ok : refused table eve
   room-ok = first-none _ ok .1 .1 .0
 
   table-ok : table-refused table .number ≡ 0
-  unfolding refused
-  table-ok = first-none _ ok .1 .1 .1 .0
+  table-ok = table-passes table events room ok
 
   lengths-ok : lengths-refused table events room .number ≡ 0
   unfolding lengths-refused first nothing
@@ -138,11 +137,9 @@ module _ (table : Table) (events : Events) (room : Room) (ok : refused table eve
 
   -- the root has no share
   root-share : getD (table .shares) 0 0 ≡ 0
-  unfolding table-refused row-refused root-refused
+  unfolding row-refused root-refused
   root-share =
-      let n = length (table .identifiers) in
-      let rows-none = or-none (first-below (row-refused table) n) (first-below (shares-refused table) n) table-ok .0 in
-      let root = first-none _ (below-none (row-refused table) n rows-none 0 (whole-table .some)) in
+      let root = first-none _ (row-passes table table-ok 0 (whole-table .some)) in
       let a = eqb (getD (table .parent-identifiers) 0 0) 0 in
       let b = eqb (getD (table .shares) 0 0) 0 in
       eqb-true (getD (table .shares) 0 0) 0 (not-false b (or-is-false (not a) (not b) .0 (given-none _ _ _ (root .1 .1 .0)) .1))

@@ -18,13 +18,12 @@ use Rattle.input.specs.Events.{Events, count, class-word, length-word, event}
 use Rattle.input.specs.Refusals.{table-refused}
 use Rattle.rules.specs.Box.{held-by}
 use Rattle.rules.specs.Steps.{after}
-use Rattle.rules.specs.Refused.{refused}
 use Rattle.rules.specs.Outcome.{Lent, Outcome, row-report, lag, room-of, Ran}
 use Rattle.rules.specs.Promise.{finish-count, arrived, largest, packets-for, bytes-for, finished, holds, Backlogged, line-most, Promised}
 use Rattle.laws.specs.Sound.{ApartOnAir, Sender}
 use Rattle.laws.specs.History.{Accepted, LagSince, arrivals-of, only-for}
 use Rattle.laws.specs.Shorter.{cut}
-use Rattle.laws.proofs.tree.Trees.{first-none, accepted}
+use Rattle.laws.proofs.tree.Trees.{table-passes, accepted}
 use Rattle.laws.proofs.tree.OnAir.{none-cut, apart-on-air}
 use Rattle.laws.proofs.event.Turns.{fewer}
 use Rattle.laws.proofs.run.History.{bytes-counted, held-counted, holds-held, order-grows, order-length, first-in-first-out, once}
@@ -77,8 +76,7 @@ module _ (lent : Lent) (left : Outcome) (ran : Ran lent left) (done : left .answ
   -- ── identifiers ──
 
   table-fine : table-refused (lent .table) .number ≡ 0
-  unfolding refused
-  table-fine = first-none _ (not-refused lent left ran done) .1 .1 .1 .0
+  table-fine = table-passes (lent .table) (lent .events) (room-of lent) (not-refused lent left ran done)
 
   -- cut to its low 16 bits, each identifier of the table is what it was
   pub none-cut-on-air : map on-air (lent .table .identifiers) ≡ lent .table .identifiers

@@ -12,9 +12,9 @@ use lib.Seq.{getD-take, length-take-le}
 use borrow.Author.Tests.{ltb-true, ltb-false, eq-eqb}
 use Rattle.input.specs.Limits.{most-identifier}
 use Rattle.input.specs.Classes.{Table, place-of, earlier, on-air}
-use Rattle.input.specs.Refusals.{nothing, doubled, first-below, root-refused, class-refused, row-refused, shares-refused, table-refused}
+use Rattle.input.specs.Refusals.{nothing, doubled, root-refused, class-refused, row-refused, table-refused}
 use Rattle.laws.specs.Sound.{ApartOnAir}
-use Rattle.laws.proofs.tree.Trees.{or-none, first-none, below-none, given-none}
+use Rattle.laws.proofs.tree.Trees.{first-none, given-none, row-passes}
 
 -- 15 refuses exactly what the modem would change: nothing up to the largest identifier, and everything above it
 pub as-it-is : (identifier : ℕ) → identifier ≤ most-identifier → on-air identifier ≡ identifier
@@ -56,22 +56,17 @@ module _ (table : Table) (fine : table-refused table .number ≡ 0) where
   abbrev identifier : ℕ → ℕ
   identifier r = getD (table .identifiers) r 0
 
-  row-fine : (r : ℕ) → r < rows → row-refused table r .number ≡ 0
-  unfolding table-refused
-  row-fine =
-      below-none (row-refused table) rows (or-none (first-below (row-refused table) rows) (first-below (shares-refused table) rows) fine .0)
-
   small : (r : ℕ) → r < rows → identifier r ≤ most-identifier
   unfolding row-refused root-refused class-refused
-  small zero inside = ltb-false most-identifier _ (given-none _ _ _ (first-none _ (row-fine 0 inside) .1 .0))
-  small (suc r) inside = ltb-false most-identifier _ (given-none _ _ _ (first-none _ (row-fine (suc r) inside) .1 .0))
+  small zero inside = ltb-false most-identifier _ (given-none _ _ _ (first-none _ (row-passes table fine 0 inside) .1 .0))
+  small (suc r) inside = ltb-false most-identifier _ (given-none _ _ _ (first-none _ (row-passes table fine (suc r) inside) .1 .0))
 
   -- no earlier row has a row's identifier
   none-earlier : (r j : ℕ) → r < rows → j < r → identifier j ≢ identifier r
   unfolding row-refused class-refused earlier
   none-earlier zero j inside before same = absurd (omega arith)
   none-earlier (suc r) j inside before same =
-      let alone = doubled-none (suc r) _ (first-none _ (row-fine (suc r) inside) .1 .1 .0) in
+      let alone = doubled-none (suc r) _ (first-none _ (row-passes table fine (suc r) inside) .1 .1 .0) in
       let first-rows = take (suc r) (table .identifiers) in
       let long = length-take-le (suc r) (table .identifiers) (omega arith) in
       let there = getD-take (suc r) (table .identifiers) j 0 before in

@@ -196,9 +196,24 @@ class-fits r identifier other parent share depth ok =
     let shallow = given-none (ltb most-depth depth) _ _ (all .1 .1 .1 .1 .1 .0) in
     (eqb-false parent r found, subst T (sym share-ok) tt, ltb-false most-depth depth shallow)
 
+-- where a table is not refused, no row is, and no sum of shares
+module _ (table : Table) (fine : table-refused table .number ≡ 0) where
+  abbrev n : ℕ
+  n = length (table .identifiers)
+
+  both : (first-below (row-refused table) n .number ≡ 0) × (first-below (shares-refused table) n .number ≡ 0)
+  unfolding table-refused
+  both = or-none (first-below (row-refused table) n) (first-below (shares-refused table) n) fine
+
+  pub row-passes : (r : ℕ) → r < n → row-refused table r .number ≡ 0
+  row-passes = below-none (row-refused table) n (both .0)
+
+  sum-passes : (p : ℕ) → p < n → shares-refused table p .number ≡ 0
+  sum-passes = below-none (shares-refused table) n (both .1)
+
 -- a table that is not refused is read as a sound tree
 pub sound : (table : Table) → rows-refused table .number ≡ 0 → table-refused table .number ≡ 0 → Sound (tree-of table)
-unfolding tree-of table-refused row-refused shares-refused depth-read
+unfolding tree-of row-refused shares-refused depth-read
 sound table rows-ok table-ok =
     record {
       some-rows = omega (arith, rows, size .0);
@@ -228,14 +243,11 @@ sound table rows-ok table-ok =
     low : (r : ℕ) → r < tree-of table .rows → r < n
     low r inside = omega (arith, rows)
 
-    both : (first-below (row-refused table) n .number ≡ 0) × (first-below (shares-refused table) n .number ≡ 0)
-    both = or-none (first-below (row-refused table) n) (first-below (shares-refused table) n) table-ok
-
     fits :
         (r : ℕ) → 0 < r → r < n
         → (parent-of table r ≢ r) × T (allowed (getD (table .shares) r 0)) × (depth (tree-of table) r ≤ most-depth)
     fits zero positive below = absurd (omega arith)
-    fits (suc r) positive below = class-fits (suc r) _ _ _ _ _ (below-none (row-refused table) n (both .0) (suc r) below)
+    fits (suc r) positive below = class-fits (suc r) _ _ _ _ _ (row-passes table table-ok (suc r) below)
 
     in-rows : (r : ℕ) → 0 < r → r < n → parent (tree-of table) r < tree-of table .rows
     in-rows r positive below =
@@ -249,7 +261,7 @@ sound table rows-ok table-ok =
     shallow (suc r) below = fits (suc r) (omega arith) below .2
 
     together : (p : ℕ) → p < n → children-share (tree-of table) p n ≤ whole
-    together p below = ltb-false whole _ (given-none _ _ _ (below-none (shares-refused table) n (both .1) p below))
+    together p below = ltb-false whole _ (given-none _ _ _ (sum-passes table table-ok p below))
 
 -- an event that is not refused
 pub arrival-fits :
@@ -280,11 +292,15 @@ finish-fits tree i word box ok =
     (eqb-true word 0 (not-false (eqb word 0) (given-none _ _ _ (all .0))), not-false (has-head (box .rows) 0) (given-none _ _ _ (all .1 .0)))
 
 -- an input that is not refused
+pub table-passes : (table : Table) (events : Events) (room : Room) → refused table events room .number ≡ 0 → table-refused table .number ≡ 0
+unfolding refused
+table-passes table events room ok = first-none _ ok .1 .1 .1 .0
+
 pub accepted : (table : Table) (events : Events) (room : Room) → refused table events room .number ≡ 0 → Accepted (tree-of table) events (count events)
 unfolding refused
 accepted table events room ok =
     let all = first-none _ ok in
     record {
-      sound = sound table (all .0) (all .1 .1 .1 .0);
+      sound = sound table (all .0) (table-passes table events room ok);
       each = below-none (event-refused (tree-of table) events) (count events) (all .1 .1 .1 .1 .0);
     }
