@@ -3,14 +3,14 @@
 use Prim.Native.Nat.{ℕ, _+_, _*_, _≤_, _<_, _^_, max}
 use mathlib.Core.Bool.{Bool, true, false, cond}
 use mathlib.Core.List.{List, []}
-use native.Mathlib.Nat.{mul-le-mul, div-le-self}
 use native.Mathlib.Omega.{arith}
 use lib.Dec.{eqb}
 use Rattle.words.proofs.Entries.{entry-set}
 use Rattle.rules.specs.declared.Why.{Why}
 use Rattle.rules.specs.declared.Why.the-variants.{Finished, Arrived}
-use Rattle.input.specs.Limits.{ticks, most-bytes, scale}
-use Rattle.input.specs.Shares.{cost, charge}
+use Rattle.input.specs.Limits.{ticks, most-bytes}
+use Rattle.input.specs.Shares.{charge}
+use Rattle.input.proofs.Charges.{charge-most}
 use Rattle.input.specs.Classes.{Tree, parent}
 use Rattle.rules.specs.Box.{Rows, start, virtual, head}
 use Rattle.rules.specs.Steps.{with-virtual, next-start, waits, least, raised}
@@ -18,11 +18,6 @@ use Rattle.input.specs.Lent.{tree-with}
 use Rattle.choosing.specs.Arrays.{raised-of, next-start-of}
 use Rattle.choosing.specs.Sizes.{Leeway, most-charge, most-passed}
 use Rattle.choosing.proofs.Parts.{raised-part, next-start-part}
-
--- a share is at least one part, or 0, which costs nothing: no packet is charged more than the scale a byte
-pub charge-most : (length share : ℕ) → length ≤ most-bytes → charge length share ≤ most-charge
-unfolding charge cost
-charge-most length share short = mul-le-mul short (div-le-self scale share)
 
 pub less-leeway : (m n : ℕ) (rows : Rows) → n ≤ m → Leeway m rows → Leeway n rows
 less-leeway m n rows less leeway =
@@ -57,7 +52,7 @@ pub charged-fits : {rows : Rows} → Leeway most-charge rows
 charged-fits {rows} leeway parents why r length share short =
     let small = next-start-leeway most-charge (tree-with 0 [] parents [] []) rows leeway why r in
     let same = next-start-part (tree-with 0 [] parents [] []) rows why r in
-    let cheap = charge-most length share short in
+    let cheap = charge-most length share in
     omega arith
 
 -- the raised virtual time has the leeway that the tags have

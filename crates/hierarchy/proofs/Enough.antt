@@ -13,7 +13,8 @@ use Rattle.rules.specs.Box.{Rows, head, head-length, head-class}
 use Rattle.rules.specs.Steps.{with-head, with-virtual, charged, next-start, new-head, raised, pick, takes, chooses}
 use Rattle.choosing.specs.Sizes.{Leeway, most-charge, most-passed, most-choice}
 use Rattle.words.proofs.Entries.{entry-set}
-use Rattle.choosing.proofs.Ticks.{charge-most, less-leeway, next-start-leeway, raised-leeway, passed-leeway}
+use Rattle.input.proofs.Charges.{charge-most}
+use Rattle.choosing.proofs.Ticks.{less-leeway, next-start-leeway, raised-leeway, passed-leeway}
 use Rattle.hierarchy.specs.Sizes.{Small}
 
 pub same-leeway : {n : ℕ} {rows next : Rows} → next ≡ rows → Leeway n rows → Leeway n next
@@ -35,7 +36,7 @@ pub new-head-leeway : (n : ℕ) (tree : Tree) (rows : Rows) → Leeway (n + most
 unfolding new-head charged with-head
 new-head-leeway n tree rows leeway why r packet length class short =
     let small = next-start-leeway (n + most-charge) tree rows leeway why r in
-    let cheap = charge-most length (share tree r) short in
+    let cheap = charge-most length (share tree r) in
     record {
       starts = λ i. entry-set (λ (t : ℕ). t + n < 2 ^ 64) (rows .starts) r s i (omega arith) (rest .starts i);
       finishes =

@@ -1,7 +1,8 @@
--- What is proved of the definitions by themselves: the table of shares, the rows of events, small tables that are refused, and that no
+-- What is proved of the definitions by themselves: the rows of events, small tables that are refused, shares and charges, and that no
 -- contract leaves a choice.
-pub mod ShareTable
 pub mod Filled
 pub mod EventRows
+pub mod Charges
+pub mod Edges
 pub mod Refused
 pub mod Unique

@@ -14,7 +14,8 @@ pub tables : List Table
 tables =
     -- row 2 has the identifier of row 1
     table-of (1 ∷ 10 ∷ 10 ∷ []) (0 ∷ 1 ∷ 1 ∷ []) (0 ∷ 420 ∷ 420 ∷ [])
-    -- a share that is not allowed, and one that is
+    -- a share that is not allowed, and two that are
+    ∷ table-of (1 ∷ 10 ∷ []) (0 ∷ 1 ∷ []) (0 ∷ 841 ∷ [])
     ∷ table-of (1 ∷ 10 ∷ []) (0 ∷ 1 ∷ []) (0 ∷ 756 ∷ [])
     ∷ table-of (1 ∷ 10 ∷ []) (0 ∷ 1 ∷ []) (0 ∷ 840 ∷ [])
     -- shares that are one part too much together
@@ -25,6 +26,7 @@ pub refused :
     map table-refused tables
     ≡ record { number = 5; place = 2; second = 1 }
     ∷ record { number = 8; place = 1; second = 0 }
+    ∷ nothing
     ∷ nothing
     ∷ record { number = 10; place = 0; second = 0 }
     ∷ []
@@ -71,13 +73,13 @@ pub large-before-doubled : class-refused 2 65536 1 0 420 1 ≡ at 15 2
 unfolding nothing given or-else first doubled class-refused
 large-before-doubled = refl
 
--- the edges, shares beside allowed ones, and past the whole one that divides the scale
+-- the edges, shares that do not divide the scale, and past the whole one that does
 pub shares : List ℕ
-shares = 0 ∷ 1 ∷ 10 ∷ 11 ∷ 12 ∷ 756 ∷ 800 ∷ 839 ∷ 840 ∷ 841 ∷ 882 ∷ 4294967295 ∷ []
+shares = 0 ∷ 1 ∷ 11 ∷ 756 ∷ 839 ∷ 840 ∷ 841 ∷ 882 ∷ 4294967295 ∷ []
 
 pub shares-allowed :
     map allowed shares
-    ≡ false ∷ true ∷ true ∷ false ∷ true ∷ false ∷ true ∷ false ∷ true ∷ false ∷ false ∷ false ∷ []
+    ≡ false ∷ true ∷ true ∷ true ∷ true ∷ true ∷ false ∷ false ∷ false ∷ []
 unfolding shares allowed
 shares-allowed = refl
 

@@ -41,7 +41,7 @@ whole = 840
 abbrev pub ticks : ℕ
 ticks = 840
 
--- ticks to a byte for a share of one part: a share divides it
+-- ticks to a byte for a share of one part
 abbrev pub scale : ℕ
 scale = ticks * whole
 
@@ -52,3 +52,7 @@ report-words = 5
 -- largest packets that each step of the promise on shares adds
 abbrev pub packets-a-step : ℕ
 packets-a-step = 3
+
+-- ticks that each step adds beside one for each packet that the class finished
+abbrev pub ticks-a-step : ℕ
+ticks-a-step = 2

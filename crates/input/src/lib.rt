@@ -27,6 +27,9 @@ pub const LEAST_BYTES: u32 = 1;
 
 pub const MOST_BYTES: u32 = 9000;
 
+// Parts of a share.
+pub const LEAST_SHARE: u32 = 1;
+
 // The parts that make a whole: the most that a share may be, and that the children of a row may have together.
 pub const WHOLE: u32 = 840;
 
@@ -41,6 +44,9 @@ pub const REPORT_WORDS: usize = 5;
 
 // Largest packets that each step of the promise on shares adds.
 pub const PACKETS_A_STEP: u32 = 3;
+
+// Ticks that each step adds beside one for each packet that the class finished.
+pub const TICKS_A_STEP: u32 = 2;
 
 // ── an entry for each row that there can be ──
 

@@ -14,6 +14,7 @@ use Rattle.input.specs.Classes.{Tree, share, row-of, child, children-share}
 use Rattle.rules.specs.Box.{Packet, Rows, Box, start, finish, virtual, head, head-length, head-class, has-head, held-by, queue-of}
 use Rattle.laws.specs.Sound.{Kid, Inner, Sender}
 use Rattle.laws.specs.Moves.{Full, SameHead, Settled}
+use Rattle.laws.specs.Rounding.{rounding}
 use Rattle.laws.specs.Level.{Mode, idle, waits, taken, sum, Behind}
 
 -- ── a level, as the level's laws see it ──
@@ -40,7 +41,8 @@ pub data Taken (tree : Tree) (a : Rows) (p : ℕ) : ℕ → Type 0 where
 
 -- ahead: how far a child's next start can be past the virtual time, both times the share
 unfoldable pub Ahead : Tree → (ℕ → ℕ) → Rows → ℕ → ℕ → ℕ → Type 0
-Ahead tree big a p j t = share tree j * t ≤ share tree j * virtual a p + ticks * ((whole - share tree j) * big j)
+Ahead tree big a p j t =
+    share tree j * t ≤ share tree j * virtual a p + ticks * ((whole - share tree j) * big j) + share tree j * rounding (share tree j)
 
 -- the two laws of a level, with its taken child t
 pub record Balanced (tree : Tree) (big : ℕ → ℕ) (a : Rows) (p t : ℕ) : Type 0 where

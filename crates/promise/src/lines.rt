@@ -5,6 +5,8 @@ ghost use Rattle.input.specs.Limits.{packets-a-step};
 use input::MOST_ROWS;
 use input::PACKETS_A_STEP;
 use input::RowMarks;
+use input::SCALE;
+use input::TICKS;
 use input::WHOLE;
 use libc::STDOUT_FILENO;
 use output::Sink;
@@ -21,6 +23,7 @@ use words::word;
 pub fn print<'a>(
     largest: u32,
     own: u32,
+    packets: u32,
     identifiers: &'a [u32],
     parents: &'a [u32],
     depths: &'a [u32],
@@ -28,7 +31,8 @@ pub fn print<'a>(
     senders: &'a RowMarks,
 ) {
     let mut out = [0u8; 8192];
-    let mut sink = put_heading(&mut out, onto(STDOUT_FILENO), largest, own);
+    let more = sheet::ticks(packets);
+    let mut sink = put_heading(&mut out, onto(STDOUT_FILENO), largest, own, packets, more);
     let mut row = 0;
     while row < MOST_ROWS {
         sink = put_row(
@@ -37,6 +41,7 @@ pub fn print<'a>(
             senders[row],
             largest,
             own,
+            more,
             identifiers,
             parents,
             depths,
@@ -48,16 +53,26 @@ pub fn print<'a>(
     flush(&mut out, sink);
 }
 
-fn put_heading(out: &mut [u8; 8192], sink: Sink, largest: u32, own: u32) -> Sink {
+fn put_heading(
+    out: &mut [u8; 8192],
+    sink: Sink,
+    largest: u32,
+    own: u32,
+    packets: u32,
+    more: u64,
+) -> Sink {
     let sink = put_named(out, sink, b"own bytes ", own);
     let sink = put_named(out, sink, b", largest packet ", largest);
     let sink = put_text(out, sink, b", three packets ");
-    let sink = put_number(out, sink, packets(largest));
+    let sink = put_number(out, sink, packets_bytes(largest));
+    let sink = put_named(out, sink, b", packets finished ", packets);
+    let sink = put_text(out, sink, b", ticks ");
+    let sink = put_number(out, sink, more);
     put_byte(out, sink, 10)
 }
 
 // The bytes that a step adds.
-fn packets(largest: u32) -> u64
+fn packets_bytes(largest: u32) -> u64
     ensures { λ r. ⌜ r ≡ packets-a-step * largest ⌝ }
 {
     PACKETS_A_STEP as u64 * largest as u64
@@ -70,6 +85,7 @@ fn put_row<'a>(
     sends: bool,
     largest: u32,
     own: u32,
+    more: u64,
     identifiers: &'a [u32],
     parents: &'a [u32],
     depths: &'a [u32],
@@ -84,17 +100,19 @@ fn put_row<'a>(
     let sink = put_named(out, sink, b")\n  own bytes: ", own);
     let sink = put_byte(out, sink, 10);
     let depth = word(depths, row);
-    put_steps(
+    let sink = put_steps(
         out,
         sink,
         largest,
         own,
+        more,
         identifiers,
         parents,
         shares,
         row,
         depth,
-    )
+    );
+    put_without_ticks(out, sink, largest, own, parents, shares, row, depth)
 }
 
 // A line for each row from the class up to the root's child, as far as the working fits, and what comes of it.
@@ -103,6 +121,7 @@ fn put_steps<'a>(
     sink: Sink,
     largest: u32,
     own: u32,
+    more: u64,
     identifiers: &'a [u32],
     parents: &'a [u32],
     shares: &'a [u32],
@@ -110,12 +129,12 @@ fn put_steps<'a>(
     depth: u32,
 ) -> Sink {
     let mut sink = sink;
-    let mut figure = sheet::after(0, parents, shares, row, largest, own);
+    let mut figure = sheet::after(0, parents, shares, row, largest, own, more);
     let mut at = row;
     let mut step = 0;
     while step < depth {
         step += 1;
-        let next = sheet::after(step, parents, shares, row, largest, own);
+        let next = sheet::after(step, parents, shares, row, largest, own, more);
         sink = put_step(
             out,
             sink,
@@ -123,6 +142,7 @@ fn put_steps<'a>(
             figure,
             largest,
             word(shares, at),
+            more,
             next,
         );
         if !next.fits {
@@ -134,7 +154,40 @@ fn put_steps<'a>(
     put_last(out, sink, figure)
 }
 
-// One step up: a row's class, the figure before, the largest packets, the row's share, the figure after.
+fn put_last(out: &mut [u8; 8192], sink: Sink, figure: Figure) -> Sink {
+    let sink = put_text(out, sink, b"  the line finishes at most ");
+    put_bytes(out, sink, figure)
+}
+
+// Where no charge on the way is rounded, what comes of the steps without their ticks, as far as that fits.
+fn put_without_ticks<'a>(
+    out: &mut [u8; 8192],
+    sink: Sink,
+    largest: u32,
+    own: u32,
+    parents: &'a [u32],
+    shares: &'a [u32],
+    row: u32,
+    depth: u32,
+) -> Sink {
+    if !sheet::all_divide(depth, parents, shares, row) {
+        return sink;
+    }
+    let figure = sheet::after(depth, parents, shares, row, largest, own, 0);
+    if !figure.fits {
+        return sink;
+    }
+    let sink = put_named(
+        out,
+        sink,
+        b"  without ticks, since each share above divides ",
+        SCALE,
+    );
+    let sink = put_text(out, sink, b": at most ");
+    put_bytes(out, sink, figure)
+}
+
+// One step up: a row's class, the figure before, the largest packets, the row's share, the ticks, the figure after.
 fn put_step(
     out: &mut [u8; 8192],
     sink: Sink,
@@ -142,15 +195,19 @@ fn put_step(
     before: Figure,
     largest: u32,
     share: u32,
+    more: u64,
     after: Figure,
 ) -> Sink {
     let sink = put_named(out, sink, b"  class ", class);
     let sink = put_text(out, sink, b": (");
     let sink = put_figure(out, sink, before);
     let sink = put_text(out, sink, b" + ");
-    let sink = put_number(out, sink, packets(largest));
+    let sink = put_number(out, sink, packets_bytes(largest));
     let sink = put_named(out, sink, b") * ", WHOLE);
     let sink = put_named(out, sink, b" / ", share);
+    let sink = put_text(out, sink, b" + ");
+    let sink = put_number(out, sink, more);
+    let sink = put_named(out, sink, b" / ", TICKS);
     let sink = put_text(out, sink, b" = ");
     put_result(out, sink, after)
 }
@@ -178,8 +235,8 @@ fn put_figure(out: &mut [u8; 8192], sink: Sink, figure: Figure) -> Sink {
     put_number(out, sink, figure.denominator)
 }
 
-fn put_last(out: &mut [u8; 8192], sink: Sink, figure: Figure) -> Sink {
-    let sink = put_text(out, sink, b"  the line finishes at most ");
+// A figure as bytes, and rounded up where it is a fraction.
+fn put_bytes(out: &mut [u8; 8192], sink: Sink, figure: Figure) -> Sink {
     let sink = put_figure(out, sink, figure);
     let sink = put_text(out, sink, b" bytes");
     if figure.denominator == 1 {

@@ -1,6 +1,7 @@
-// promise TABLE LARGEST [OWN]: reads a class table and prints, for each sending class, the sheet of its share: step by step up the
-// tree, what the line can finish at most while the class finishes OWN bytes, in a day whose largest packet has LARGEST bytes. Or it
-// says what cannot be read, or, to standard error, what a refusal names and how to mend it.
+// promise TABLE LARGEST [OWN [PACKETS]]: reads a class table and prints, for each sending class, the sheet of its share: step by step up
+// the tree, what the line can finish at most while the class finishes OWN bytes and no class on its way more than PACKETS packets, in a
+// day whose largest packet has LARGEST bytes. Or it says what cannot be read, or, to standard error, what a refusal names and how to
+// mend it.
 mod asked;
 mod lines;
 
@@ -8,6 +9,7 @@ use asked::Asked;
 use files::first;
 use files::load;
 use input::Answer;
+use input::MOST_EVENTS;
 use input::Refusal;
 use libc::STDERR_FILENO;
 use libc::STDOUT_FILENO;
@@ -24,15 +26,24 @@ fn main() {
         usage();
         return;
     }
-    if 4 < count {
+    if 5 < count {
         usage();
         return;
     }
     let largest = argument(2);
-    let own = if count == 4 { argument(3) } else { largest };
-    let asked = asked::from_fields(largest, own);
-    if let Asked::Numbers { largest, own } = asked {
-        with_numbers(largest, own);
+    let own = if 3 < count { argument(3) } else { largest };
+    let packets = if 4 < count {
+        argument(4)
+    } else {
+        Field::Number(MOST_EVENTS as u32)
+    };
+    let asked = asked::from_fields(largest, own, packets);
+    if let Asked::Numbers {
+        largest,
+        own,
+        packets,
+    } = asked {
+        with_numbers(largest, own, packets);
         return;
     }
     asked::complain(asked);
@@ -43,7 +54,7 @@ fn usage() {
     let sink = put_text(
         &mut out,
         onto(STDOUT_FILENO),
-        b"cannot read: give a class table and the largest packet, promise TABLE LARGEST [OWN]\n",
+        b"cannot read: give a class table and the largest packet, promise TABLE LARGEST [OWN [PACKETS]]\n",
     );
     flush(&mut out, sink);
 }
@@ -56,7 +67,7 @@ fn argument(place: usize) -> Field {
 }
 
 // Reads the table and goes on.
-fn with_numbers(largest: u32, own: u32) {
+fn with_numbers(largest: u32, own: u32, packets: u32) {
     let mut identifiers = [0u32; HELD_ROWS];
     let mut parents = [0u32; HELD_ROWS];
     let mut shares = [0u32; HELD_ROWS];
@@ -65,6 +76,7 @@ fn with_numbers(largest: u32, own: u32) {
         with_table(
             largest,
             own,
+            packets,
             table.rows,
             first(&identifiers, table.rows),
             first(&parents, table.rows),
@@ -78,6 +90,7 @@ fn with_numbers(largest: u32, own: u32) {
 fn with_table<'a>(
     largest: u32,
     own: u32,
+    packets: u32,
     rows: u64,
     identifiers: &'a [u32],
     parents: &'a [u32],
@@ -93,7 +106,16 @@ fn with_table<'a>(
     let depths = reading.depths;
     let parts = reading.shares;
     let senders = reading.senders;
-    lines::print(largest, own, identifiers, &above, &depths, &parts, &senders);
+    lines::print(
+        largest,
+        own,
+        packets,
+        identifiers,
+        &above,
+        &depths,
+        &parts,
+        &senders,
+    );
 }
 
 // The answer of a run with this table and, once that is written, the refusal as a sentence to standard error.

@@ -1,6 +1,6 @@
 -- The run and the promise with all that they are made of: a proof that names `computing` on its `unfolding` line can compute them.
 -- Assumes nothing.
-use Rattle.input.specs.Shares.{allowed, cost, charge}
+use Rattle.input.specs.Shares.{allowed, rounded-up, charge}
 use Rattle.input.specs.Classes.{place-of, earlier, parent-of, zeros, with-row, read, tree-of, row-of, child, has-child, sends, children-share}
 use Rattle.input.specs.Events.{decode, event}
 use Rattle.rules.specs.Box.{fresh, has-head}
@@ -12,7 +12,7 @@ use Rattle.rules.specs.Promise
 use Rattle.rules.specs.Worked
 
 unfoldable pub computing : Lent → Outcome
-unfolding allowed cost charge place-of earlier parent-of zeros with-row read tree-of row-of child has-child sends children-share
+unfolding allowed rounded-up charge place-of earlier parent-of zeros with-row read tree-of row-of child has-child sends children-share
     decode event fresh has-head
     Steps.with-head Steps.with-virtual Steps.charged Steps.next-start Steps.new-head Steps.sooner Steps.lesser Steps.least Steps.waits Steps.eligible
     Steps.raised Steps.pick Steps.takes Steps.chooses Steps.up Steps.on-path Steps.along Steps.arrives Steps.leaves Steps.renews
@@ -22,6 +22,7 @@ unfolding allowed cost charge place-of earlier parent-of zeros with-row read tre
     Refusals.table-refused Refusals.packet-refused Refusals.meeting-refused Refused.idle Refused.event-refused Refused.refused
     outcome row-report report-of lag lags-of over room-of refusing doing
     Promise.path-has Promise.within Promise.for-part Promise.one-finish Promise.one-arrival Promise.finish-count Promise.arrived Promise.largest
-    Promise.packets-for Promise.bytes-for Promise.line-bytes Promise.finished Promise.finished-in Promise.holds Promise.step-up Promise.climbed Promise.line-most
+    Promise.packets-for Promise.bytes-for Promise.line-bytes Promise.finished Promise.finished-in Promise.holds Promise.step-up Promise.plus-ticks
+    Promise.climbed Promise.line-most Promise.ticks-for Promise.no-ticks
     Worked.row Worked.packet Worked.finish Worked.lend Worked.found Worked.halves
 computing lent = outcome lent

@@ -109,6 +109,43 @@ lengths =
           ∷ [];
     }
 
+-- the rounding decides. 100 bytes cost class 10 two thirds of a tick less than the 163334 that it is charged, and class 20 a third less than its
+-- 326667. So class 10's third packet, behind two of its own, starts a tick after class 20's second, behind one, and the virtual time rises to
+-- class 20's start alone. Not rounded, both would start there, and class 10's packet would finish first
+unfoldable pub rounding-decides : Run
+rounding-decides =
+    record {
+      lent =
+          lend (row 1 0 0 ∷ row 10 1 432 ∷ row 20 1 216 ∷ row 30 1 192 ∷ [])
+          (packet 30 100 ∷ packet 10 100 ∷ packet 20 100 ∷ packet 10 100 ∷ packet 10 100 ∷ packet 20 100 ∷ replicate 6 finish);
+      facts =
+          Answers 0 0 0 6
+          ∷ Order (0 ∷ 1 ∷ 2 ∷ 3 ∷ 5 ∷ 4 ∷ replicate 7 7)
+          ∷ RowReport 0 (600 ∷ 0 ∷ 0 ∷ 578667 ∷ 0 ∷ [])
+          ∷ RowReport 1 (300 ∷ 410668 ∷ 574002 ∷ 0 ∷ 0 ∷ [])
+          ∷ RowReport 2 (200 ∷ 410667 ∷ 737334 ∷ 0 ∷ 0 ∷ [])
+          ∷ RowReport 3 (100 ∷ 0 ∷ 367500 ∷ 0 ∷ 0 ∷ [])
+          ∷ [];
+    }
+
+-- the rounding adds up. With nine tenths of the line, 10 bytes cost class 10 two thirds of a tick less than the 9334 that it is charged; after
+-- nine packets that makes 6 ticks, and its tenth starts at 84006. The virtual time is 84000 then, where class 20's second packet starts, which
+-- goes first. Rounded once over all nine, class 10's would start there too, and finish first
+unfoldable pub rounding-adds-up : Run
+rounding-adds-up =
+    record {
+      lent =
+          lend (row 1 0 0 ∷ row 10 1 756 ∷ row 20 1 84 ∷ [])
+          (packet 10 10 ∷ packet 20 9 ∷ packet 20 9 ∷ replicate 9 (packet 10 10) ++ replicate 12 finish);
+      facts =
+          Answers 0 0 0 12
+          ∷ Order (0 ∷ 1 ∷ 3 ∷ 4 ∷ 5 ∷ 6 ∷ 7 ∷ 8 ∷ 9 ∷ 10 ∷ 2 ∷ 11 ∷ replicate 13 7)
+          ∷ RowReport 0 (118 ∷ 0 ∷ 0 ∷ 99960 ∷ 0 ∷ [])
+          ∷ RowReport 1 (100 ∷ 84006 ∷ 93340 ∷ 0 ∷ 0 ∷ [])
+          ∷ RowReport 2 (18 ∷ 84000 ∷ 159600 ∷ 0 ∷ 0 ∷ [])
+          ∷ [];
+    }
+
 -- the largest identifiers: an inner row's, and below it a sending class's, whose packet and parent are found by them
 unfoldable pub largest-identifiers : Run
 largest-identifiers =
@@ -158,5 +195,5 @@ untouched =
 
 unfoldable pub runs : List Run
 runs =
-    not-eligible ∷ behind ∷ inner ∷ head-counts ∷ waited ∷ lengths ∷ largest-identifiers ∷ one-on-air ∷ root-on-air ∷ class-on-air
+    not-eligible ∷ behind ∷ inner ∷ head-counts ∷ waited ∷ lengths ∷ rounding-decides ∷ rounding-adds-up ∷ largest-identifiers ∷ one-on-air ∷ root-on-air ∷ class-on-air
     ∷ untouched ∷ []

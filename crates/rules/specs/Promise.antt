@@ -6,7 +6,7 @@ use lib.Dec.{eqb}
 use lib.ListN.{take, drop}
 use Rattle.input.specs.declared.Event.{Event}
 use Rattle.input.specs.declared.Event.the-variants.{Arrival, Finish}
-use Rattle.input.specs.Limits.{whole}
+use Rattle.input.specs.Limits.{whole, ticks, ticks-a-step}
 use Rattle.input.specs.Classes.{Tree, parent, depth, share, row-of}
 use Rattle.input.specs.Events.{Events, class-word, length-word, event}
 
@@ -103,22 +103,35 @@ step-up packets largest times q =
       denominator = q .denominator * times .denominator;
     }
 
--- from row k, which is at this depth, step by step up to the root, each time by the whole over the row's share
-unfoldable pub climbed : ℕ → Tree → ℕ → ℕ → ℕ → Ratio → Ratio
-climbed zero tree packets largest k q = q
-climbed (suc d) tree packets largest k q =
-    climbed d tree packets largest (parent tree k) (step-up packets largest (whole-over (share tree k)) q)
+-- so many ticks more
+unfoldable pub plus-ticks : ℕ → Ratio → Ratio
+plus-ticks more q =
+    record { numerator = q .numerator * ticks + more * q .denominator; denominator = q .denominator * ticks }
+
+-- from row k, which is at this depth, step by step up to the root: each time by the whole over the row's share, and then the row's ticks more
+unfoldable pub climbed : ℕ → Tree → ℕ → ℕ → (ℕ → ℕ) → ℕ → Ratio → Ratio
+climbed zero tree packets largest more k q = q
+climbed (suc d) tree packets largest more k q =
+    climbed d tree packets largest more (parent tree k) (plus-ticks (more k) (step-up packets largest (whole-over (share tree k)) q))
 
 -- the number for row k from its own bytes: the most that the line may have finished
-unfoldable pub line-most : Tree → ℕ → ℕ → ℕ → ℕ → Ratio
-line-most tree packets largest k own = climbed (depth tree k) tree packets largest k (record { numerator = own; denominator = 1 })
+unfoldable pub line-most : Tree → ℕ → ℕ → (ℕ → ℕ) → ℕ → ℕ → Ratio
+line-most tree packets largest more k own = climbed (depth tree k) tree packets largest more k (record { numerator = own; denominator = 1 })
+
+-- the ticks of a row's step where these packets were finished: one for each of its own, and two more
+unfoldable pub ticks-for : Tree → Events → List ℕ → ℕ → ℕ
+ticks-for tree events sent r = packets-for tree events r sent + ticks-a-step
+
+-- none at any step
+unfoldable pub no-ticks : List ℕ → ℕ → ℕ
+no-ticks sent r = 0
 
 -- ── the promise ──
 
--- to row k in a stretch, with so many largest packets a step: the lengths of all packets finished in it are together at most the number from
--- k's own bytes. That is a fraction, so both sides are taken times its denominator
-abbrev pub Promised : Tree → Events → List ℕ → ℕ → ℕ → ℕ → ℕ → ℕ → Type 0
-Promised tree events order packets largest k a b =
+-- to row k in a stretch, with so many largest packets a step and ticks by the packets finished and the row: the lengths of all packets
+-- finished in it are together at most the number from k's own bytes. That is a fraction, so both sides are taken times its denominator
+abbrev pub Promised : Tree → Events → List ℕ → ℕ → ℕ → (List ℕ → ℕ → ℕ) → ℕ → ℕ → ℕ → Type 0
+Promised tree events order packets largest more k a b =
     let sent = finished-in events order a b in
-    let most = line-most tree packets largest k (bytes-for tree events k sent) in
+    let most = line-most tree packets largest (more sent) k (bytes-for tree events k sent) in
     line-bytes events sent * most .denominator ≤ most .numerator

@@ -184,9 +184,9 @@ p6 =
 unfoldable pub p7 : Run
 p7 = record { lent = lend (row 1 0 0 ∷ row 10 1 420 ∷ row 10 1 420 ∷ []) []; facts = Answers 5 2 1 0 ∷ [] }
 
--- P8: a share that is not allowed
+-- P8: a share that does not divide 705600
 unfoldable pub p8 : Run
-p8 = record { lent = lend (row 1 0 0 ∷ row 10 1 756 ∷ []) []; facts = Answers 8 1 0 0 ∷ [] }
+p8 = record { lent = lend (row 1 0 0 ∷ row 10 1 756 ∷ []) []; facts = Answers 0 0 0 0 ∷ [] }
 
 -- P9: all of the line for one class
 unfoldable pub p9 : Run

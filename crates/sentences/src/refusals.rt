@@ -10,6 +10,7 @@ use crate::names::put_row;
 use input::Answer;
 use input::LEAST_BYTES;
 use input::LEAST_ROWS;
+use input::LEAST_SHARE;
 use input::MOST_BYTES;
 use input::MOST_DEPTH;
 use input::MOST_EVENTS;
@@ -22,8 +23,6 @@ use output::put_byte;
 use output::put_named;
 use output::put_number;
 use output::put_text;
-use shares::above;
-use shares::below;
 use words::word;
 
 // A refusal of a run.
@@ -220,24 +219,11 @@ fn share<'a>(
     shares: &'a [u32],
     row: u32,
 ) -> Sink {
-    let share = word(shares, row);
     let sink = put_class(out, sink, identifiers, row);
-    let sink = put_named(out, sink, b", has share ", share);
-    let sink = put_text(out, sink, b", which is not allowed; the nearest allowed ");
-    let sink = nearest(out, sink, below(share), above(share));
+    let sink = put_named(out, sink, b", has share ", word(shares, row));
+    let sink = put_named(out, sink, b"; give it a share from ", LEAST_SHARE);
+    let sink = put_named(out, sink, b" to ", WHOLE);
     put_byte(out, sink, 46)
-}
-
-// The one or two nearest, 0 for none.
-fn nearest(out: &mut [u8; 8192], sink: Sink, lower: u32, upper: u32) -> Sink {
-    if lower == 0 {
-        return put_named(out, sink, b"is ", upper);
-    }
-    if upper == 0 {
-        return put_named(out, sink, b"is ", lower);
-    }
-    let sink = put_named(out, sink, b"are ", lower);
-    put_named(out, sink, b" and ", upper)
 }
 
 // The first row too deep is just one below the deepest allowed.

@@ -1,10 +1,10 @@
 -- The number of the promise as it is worked out in 64-bit words: a fraction in lowest terms for as long as it fits them.
-use Prim.Native.Nat.{ℕ, zero, suc, _+_, _/_, _%_, _^_}
-use mathlib.Core.Bool.{Bool, true, false, cond, not, _&&_}
+use Prim.Native.Nat.{ℕ, zero, suc, _+_, _*_, _/_, _%_, _^_}
+use mathlib.Core.Bool.{Bool, true, false, not, _&&_}
 use mathlib.Core.List.{List}
 use lib.Dec.{ltb, eqb}
 use lib.ListN.{getD}
-use Rattle.input.specs.Limits.{packets-a-step}
+use Rattle.input.specs.Limits.{ticks, scale, packets-a-step}
 use Rattle.rules.specs.Promise.{Ratio, whole-over, step-up}
 use Rattle.sheet.specs.declared.Figure.{Figure}
 
@@ -50,26 +50,39 @@ fitting q = elim (ltb (q .numerator) limit && ltb (q .denominator) limit) [ true
 
 -- one step up from a row with this share, by the whole over the share in lowest terms. What is outgrown stays so, and over a share of 0
 -- there is no figure
-unfoldable pub stepped : ℕ → ℕ → Figure → Figure
-stepped largest share from =
+unfoldable pub by-share : ℕ → ℕ → Figure → Figure
+by-share largest share from =
     elim (from .fits && not (eqb share 0)) [
       | true ↦ fitting (step-up packets-a-step largest (lowest (whole-over share)) (ratio-of from))
       | false ↦ outgrown
     ]
 
--- so many steps up from a row
-unfoldable pub climbing : ℕ → List ℕ → List ℕ → ℕ → ℕ → Figure → Figure
-climbing zero parents shares largest row from = from
-climbing (suc n) parents shares largest row from =
-    climbing n parents shares largest (getD parents row 0) (stepped largest (getD shares row 0) from)
+-- the sum of two fractions over their least common denominator
+unfoldable pub sum-of : Ratio → Ratio → Ratio
+sum-of q r =
+    let by = greatest (q .denominator) (r .denominator) (r .denominator) in
+    fraction (q .numerator * (r .denominator / by) + r .numerator * (q .denominator / by)) (q .denominator * (r .denominator / by))
+
+-- so many ticks more, as bytes in lowest terms
+unfoldable pub with-ticks : ℕ → Figure → Figure
+with-ticks more from =
+    elim (from .fits) [ true ↦ fitting (sum-of (ratio-of from) (lowest (fraction more ticks))) | false ↦ outgrown ]
+
+-- a whole step
+unfoldable pub stepped : ℕ → ℕ → ℕ → Figure → Figure
+stepped largest more share from = with-ticks more (by-share largest share from)
+
+-- so many steps up from a row, each with as many ticks
+unfoldable pub climbing : ℕ → List ℕ → List ℕ → ℕ → ℕ → ℕ → Figure → Figure
+climbing zero parents shares largest more row from = from
+climbing (suc n) parents shares largest more row from =
+    climbing n parents shares largest more (getD parents row 0) (stepped largest more (getD shares row 0) from)
 
 -- so many steps up from a row's own bytes
-unfoldable pub worked : ℕ → List ℕ → List ℕ → ℕ → ℕ → ℕ → Figure
-worked steps parents shares largest row own = climbing steps parents shares largest row (figure (fraction own 1))
+unfoldable pub worked : ℕ → List ℕ → List ℕ → ℕ → ℕ → ℕ → ℕ → Figure
+worked steps parents shares largest more row own = climbing steps parents shares largest more row (figure (fraction own 1))
 
--- ── whole bytes ──
-
--- a fraction rounded up; 0 for a denominator of 0
-unfoldable pub rounded-up : ℕ → ℕ → ℕ
-rounded-up numerator denominator =
-    cond (eqb denominator 0) 0 (numerator / denominator + cond (eqb (numerator % denominator) 0) 0 1)
+-- on so many steps up from a row every share divides the scale, so that no charge is rounded
+unfoldable pub dividing : ℕ → List ℕ → List ℕ → ℕ → Bool
+dividing zero parents shares row = true
+dividing (suc n) parents shares row = eqb (scale % getD shares row 0) 0 && dividing n parents shares (getD parents row 0)

@@ -24,6 +24,6 @@ pub use inside::{Choices, Inside};
 pub use report::REPORT_WIDTH;
 pub use run::{inside, run, MOST_EVENTS, MOST_ROWS};
 pub use sentences::sentence;
-pub use shares::{is_allowed, WHOLE};
+pub use shares::{charge, is_exact, UNIT_COST, WHOLE};
 pub use slices::{EventSlices, Lent, Room, TableSlices};
 pub use table::{MOST_DEPTH, MOST_IDENTIFIER};

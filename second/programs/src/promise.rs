@@ -2,8 +2,11 @@
 
 use std::ffi::{OsStr, OsString};
 
+use crate::answer::number_of;
 use crate::events::MOST_BYTES;
 use crate::program::{read_table, replay, Response};
+use crate::run::MOST_EVENTS;
+use crate::shares::is_exact;
 use crate::sheet::{climb, Figure};
 use crate::slices::{EventSlices, TableSlices};
 use crate::table::Table;
@@ -14,20 +17,43 @@ pub fn respond(arguments: &[OsString]) -> Response {
     read_and_work(arguments).unwrap_or_else(Response::plain)
 }
 
+/// What a sheet is worked from, besides the table.
+struct Numbers {
+    largest: u32,
+    own: u32,
+    /// No class finished more packets.
+    packets: u32,
+}
+
+impl Numbers {
+    fn three(&self) -> u64 {
+        3 * u64::from(self.largest)
+    }
+
+    /// What each step adds: one for each packet finished, and two more.
+    fn ticks(&self) -> u64 {
+        u64::from(self.packets) + 2
+    }
+}
+
 /// The error is the line that says what cannot be read.
 fn read_and_work(arguments: &[OsString]) -> Result<Response, Vec<u8>> {
-    let (file, largest, own) = match arguments {
-        [file, largest] => (file, largest, None),
-        [file, largest, own] => (file, largest, Some(own)),
+    let (file, largest, rest) = match arguments {
+        [file, largest, rest @ ..] if rest.len() <= 2 => (file, largest, rest),
         _ => {
-            let wanted = "give a class table and the largest packet, promise TABLE LARGEST [OWN]";
+            let wanted = "give a class table and the largest packet, \
+                          promise TABLE LARGEST [OWN [PACKETS]]";
             return Err(cannot_read("", wanted));
         }
     };
     let largest = read_largest(largest)?;
-    let own = own.map_or(Ok(largest), |own| read_own(own))?;
+    let numbers = Numbers {
+        largest,
+        own: read_optional(" OWN", rest.first(), largest)?,
+        packets: read_optional(" PACKETS", rest.get(1), number_of(MOST_EVENTS))?,
+    };
     let table = read_table(file)?;
-    Ok(refusal_or_sheet(&table.slices(), largest, own))
+    Ok(refusal_or_sheet(&table.slices(), &numbers))
 }
 
 fn read_largest(argument: &OsStr) -> Result<u32, Vec<u8>> {
@@ -41,9 +67,12 @@ fn read_largest(argument: &OsStr) -> Result<u32, Vec<u8>> {
     }
 }
 
-fn read_own(argument: &OsStr) -> Result<u32, Vec<u8>> {
+fn read_optional(name: &str, argument: Option<&OsString>, default: u32) -> Result<u32, Vec<u8>> {
+    let Some(argument) = argument else {
+        return Ok(default);
+    };
     let read = read_number(argument.as_encoded_bytes());
-    read.map_err(|why| cannot_read(" OWN", &format!("it is {why}")))
+    read.map_err(|why| cannot_read(name, &format!("it is {why}")))
 }
 
 fn cannot_read(what: &str, why: &str) -> Vec<u8> {
@@ -51,7 +80,7 @@ fn cannot_read(what: &str, why: &str) -> Vec<u8> {
 }
 
 /// A table that a run refuses is refused here in the same words.
-fn refusal_or_sheet(slices: &TableSlices, largest: u32, own: u32) -> Response {
+fn refusal_or_sheet(slices: &TableSlices, numbers: &Numbers) -> Response {
     let events = EventSlices {
         classes: &[],
         lengths: &[],
@@ -59,54 +88,81 @@ fn refusal_or_sheet(slices: &TableSlices, largest: u32, own: u32) -> Response {
     let said = replay(*slices, events);
     let accepted = said.error.is_empty();
     match accepted.then(|| Table::read(slices)) {
-        Some(Ok(table)) => Response::plain(sheet_text(&table, largest, own).into_bytes()),
+        Some(Ok(table)) => Response::plain(sheet_text(&table, numbers).into_bytes()),
         _ => said,
     }
 }
 
-fn sheet_text(table: &Table, largest: u32, own: u32) -> String {
-    let three = 3 * u64::from(largest);
-    let mut text = format!("own bytes {own}, largest packet {largest}, three packets {three}\n");
+fn sheet_text(table: &Table, numbers: &Numbers) -> String {
+    let Numbers {
+        largest,
+        own,
+        packets,
+    } = numbers;
+    let (three, ticks) = (numbers.three(), numbers.ticks());
+    let mut text = format!(
+        "own bytes {own}, largest packet {largest}, three packets {three}, \
+         packets finished {packets}, ticks {ticks}\n"
+    );
     for row in (1..table.rows.len()).filter(|row| table.rows[*row].children.is_empty()) {
-        text.push_str(&class_text(table, row, three, own));
+        text.push_str(&class_text(table, row, numbers));
     }
     text
 }
 
 /// The steps from the class in `row` up to the root's child, after an empty line.
-fn class_text(table: &Table, row: usize, three: u64, own: u32) -> String {
+fn class_text(table: &Table, row: usize, numbers: &Numbers) -> String {
     let mut path = table.path(row);
     path.pop();
     let shares: Vec<u32> = path.iter().map(|at| table.rows[*at].share).collect();
-    let figures = climb(own, three, &shares);
+    let (own, three, ticks) = (numbers.own, numbers.three(), numbers.ticks());
+    let figures = climb(own, three, ticks, &shares);
     let identifier = |row: usize| table.rows[row].identifier;
     let mut text = format!(
         "\nclass {} (row {row})\n  own bytes: {own}\n",
         identifier(row)
     );
-    for ((at, share), pair) in path.iter().zip(shares).zip(figures.windows(2)) {
+    for ((at, share), pair) in path.iter().zip(&shares).zip(figures.windows(2)) {
         let [before, after] = [pair[0], pair[1]].map(figure_text);
         let class = identifier(*at);
         text.push_str(&format!(
-            "  class {class}: ({before} + {three}) * 840 / {share} = {after}\n"
+            "  class {class}: ({before} + {three}) * 840 / {share} + {ticks} / 840 = {after}\n"
         ));
     }
-    text + &line_text(figures.last().copied().flatten())
+    text + &line_text(last(&figures)) + &without_ticks_text(&shares, numbers)
 }
 
 fn figure_text(figure: Option<Figure>) -> String {
     figure.map_or_else(|| "outgrown".to_string(), |figure| figure.to_string())
 }
 
+/// The figure for the line.
+fn last(figures: &[Option<Figure>]) -> Option<Figure> {
+    figures.last().copied().flatten()
+}
+
 fn line_text(figure: Option<Figure>) -> String {
     match figure {
         None => "  the line: no number, since the working outgrows 64 bits\n".to_string(),
-        Some(figure) if figure.is_whole() => {
-            format!("  the line finishes at most {figure} bytes\n")
-        }
-        Some(figure) => format!(
-            "  the line finishes at most {figure} bytes, rounded up {}\n",
-            figure.rounded_up()
+        Some(figure) => format!("  the line finishes {}\n", at_most(figure)),
+    }
+}
+
+/// Where no charge of the class is rounded on its way up, no tick is needed.
+fn without_ticks_text(shares: &[u32], numbers: &Numbers) -> String {
+    let figures = climb(numbers.own, numbers.three(), 0, shares);
+    match last(&figures) {
+        Some(figure) if shares.iter().all(|share| is_exact(*share)) => format!(
+            "  without ticks, since each share above divides 705600: {}\n",
+            at_most(figure)
         ),
+        _ => String::new(),
+    }
+}
+
+fn at_most(figure: Figure) -> String {
+    match figure.is_whole() {
+        true => format!("at most {figure} bytes"),
+        false => format!("at most {figure} bytes, rounded up {}", figure.rounded_up()),
     }
 }

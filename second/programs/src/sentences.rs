@@ -2,7 +2,6 @@
 
 use crate::answer::Answer;
 use crate::events::MOST_BYTES;
-use crate::shares;
 use crate::slices::{EventSlices, TableSlices};
 
 /// The sentence for a refusal of this table and these events; none for an accepted run.
@@ -116,15 +115,10 @@ fn parent(table: &TableSlices, row: usize) -> String {
 }
 
 fn share(table: &TableSlices, row: usize) -> String {
-    let share = word(table.shares, row);
-    let nearest = match (shares::nearest_below(share), shares::nearest_above(share)) {
-        (Some(below), Some(above)) => format!("the nearest allowed are {below} and {above}"),
-        (Some(only), None) | (None, Some(only)) => format!("the nearest allowed is {only}"),
-        (None, None) => "no share is near it".to_string(),
-    };
     format!(
-        "{}, has share {share}, which is not allowed; {nearest}.",
-        class_name(table, row)
+        "{}, has share {}; give it a share from 1 to 840.",
+        class_name(table, row),
+        word(table.shares, row)
     )
 }
 

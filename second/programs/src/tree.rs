@@ -157,10 +157,10 @@ impl<'a> Tree<'a> {
     }
 
     fn set_head(&mut self, row: usize, packet: Packet, start: u64) {
-        let cost = shares::cost(self.table.rows[row].share);
+        let charge = shares::charge(packet.length, self.table.rows[row].share);
         let state = &mut self.rows[row];
         state.head = Some(packet);
         state.start = start;
-        state.finish = start + u64::from(packet.length) * cost;
+        state.finish = start + charge;
     }
 }

@@ -68,6 +68,13 @@ fn share_0_gives_8() {
 }
 
 #[test]
+fn share_841_gives_8() {
+    assert_eq!(refused(&[ROOT, (10, 1, 841)], &[]), (8, 1, 0));
+    let rows = [ROOT, (10, 1, 840), (20, 10, 841)];
+    assert_eq!(refused(&rows, &[]), (8, 2, 0));
+}
+
+#[test]
 fn children_of_an_inner_class_over_the_whole_give_10_with_its_row() {
     let rows = [ROOT, (2, 1, 1), (3, 2, 840), (4, 2, 1)];
     assert_eq!(refused(&rows, &[]), (10, 1, 0));
@@ -163,7 +170,7 @@ fn order_4_before_6_at_the_root() {
 
 #[test]
 fn order_4_before_7_and_8() {
-    assert_eq!(refused(&[ROOT, (0, 99, 756)], &[]), (4, 1, 0));
+    assert_eq!(refused(&[ROOT, (0, 99, 841)], &[]), (4, 1, 0));
 }
 
 #[test]
@@ -197,7 +204,7 @@ fn order_15_and_5_by_the_row() {
 #[test]
 fn order_15_before_7_8_and_9() {
     assert_eq!(refused(&[ROOT, (65_536, 99, 420)], &[]), (15, 1, 0));
-    assert_eq!(refused(&[ROOT, (65_536, 1, 756)], &[]), (15, 1, 0));
+    assert_eq!(refused(&[ROOT, (65_536, 1, 841)], &[]), (15, 1, 0));
     let mut rows = chain(9);
     rows[9].0 = 65_536;
     assert_eq!(refused(&rows, &[]), (15, 9, 0));
@@ -234,19 +241,19 @@ fn order_5_before_7() {
 
 #[test]
 fn order_7_before_8() {
-    assert_eq!(refused(&[ROOT, (10, 99, 756)], &[]), (7, 1, 0));
+    assert_eq!(refused(&[ROOT, (10, 99, 841)], &[]), (7, 1, 0));
 }
 
 #[test]
 fn order_8_before_9() {
     let mut rows = chain(9);
-    rows[9].2 = 756;
+    rows[9].2 = 841;
     assert_eq!(refused(&rows, &[]), (8, 9, 0));
 }
 
 #[test]
 fn order_an_earlier_rows_8_before_a_later_rows_4() {
-    assert_eq!(refused(&[ROOT, (10, 1, 756), (0, 1, 1)], &[]), (8, 1, 0));
+    assert_eq!(refused(&[ROOT, (10, 1, 841), (0, 1, 1)], &[]), (8, 1, 0));
 }
 
 #[test]

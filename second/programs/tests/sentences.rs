@@ -104,27 +104,13 @@ fn sentence_7_names_the_parent() {
 }
 
 #[test]
-fn sentence_8_names_the_nearest_shares() {
-    let said = "refused 8: row 1 (line 3), class 10, has share 756, which is not allowed; \
-                the nearest allowed are 735 and 784.";
-    says("sentence_8", &[ROOT, (10, 1, 756)], &[], "8,1,0", said);
-}
-
-#[test]
-fn sentence_8_for_share_0() {
-    let said = "refused 8: row 1 (line 3), class 10, has share 0, which is not allowed; \
-                the nearest allowed is 1.";
-    says("sentence_8_zero", &[ROOT, (10, 1, 0)], &[], "8,1,0", said);
-}
-
-#[test]
-fn sentence_8_for_a_share_over_840() {
-    for share in [841, 4_294_967_295] {
+fn sentence_8_names_the_share() {
+    for share in [0, 841, 4_294_967_295] {
         let said = format!(
-            "refused 8: row 1 (line 3), class 10, has share {share}, which is not allowed; \
-             the nearest allowed is 840."
+            "refused 8: row 1 (line 3), class 10, has share {share}; \
+             give it a share from 1 to 840."
         );
-        let test = format!("sentence_8_over_{share}");
+        let test = format!("sentence_8_{share}");
         says(&test, &[ROOT, (10, 1, share)], &[], "8,1,0", &said);
     }
 }

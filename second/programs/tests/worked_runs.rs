@@ -67,8 +67,8 @@ fn p7_repeated_identifier() {
 }
 
 #[test]
-fn p8_share_756_is_refused() {
-    assert_eq!(refused(&[ROOT, (10, 1, 756)], &[]), (8, 1, 0));
+fn p8_share_756_is_accepted() {
+    accepted(&[ROOT, (10, 1, 756)], &[]);
 }
 
 #[test]

@@ -162,7 +162,8 @@ mod tests {
         assert_eq!(answer(b"cannot read x, line 1: ..\n"), Some(CANNOT_READ));
         let sheet = "own bytes 1, largest packet 1, three packets 3\n";
         assert_eq!(answer(sheet.as_bytes()), Some(SHEET));
-        let outgrown = format!("{sheet}\n  class 1: (1 + 3) * 840 / 1 = outgrown\n  the line\n");
+        let outgrown =
+            format!("{sheet}\n  class 1: (1 + 3) * 840 / 1 + 2 / 840 = outgrown\n  the line\n");
         assert_eq!(answer(outgrown.as_bytes()), Some(OUTGROWN));
     }
 

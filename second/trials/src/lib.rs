@@ -10,6 +10,7 @@ mod files;
 mod folder;
 mod printed;
 mod random;
+mod rounding;
 mod show;
 mod shrink;
 mod steady;
@@ -24,10 +25,11 @@ pub use files::{lines, Files};
 pub use folder::Folder;
 pub use printed::{End, Printed};
 pub use random::Random;
+pub use rounding::{rounding_case, rounding_cases, WRONG_CHARGES};
 pub use show::difference;
 pub use steady::steady_case;
 pub use tables::{
-    allowed_shares, even_table, fresh_identifier, greatest_share, random_table, same_on_air,
-    unknown_identifier, Shape, SHAPES,
+    any_share, even_table, fresh_identifier, random_table, same_on_air, unknown_identifier, Shape,
+    SHAPES,
 };
 pub use times::Times;

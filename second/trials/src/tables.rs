@@ -2,7 +2,7 @@
 
 use std::collections::BTreeSet;
 
-use second::{is_allowed, MOST_DEPTH, MOST_IDENTIFIER, MOST_ROWS, WHOLE};
+use second::{is_exact, MOST_DEPTH, MOST_IDENTIFIER, MOST_ROWS, WHOLE};
 
 use crate::{Random, Row};
 
@@ -44,17 +44,18 @@ pub const SHAPES: [Shape; 10] = [
     Shape::Full,
 ];
 
-/// A table that is accepted. Its first class has the given share where that fits.
+/// A table that is accepted. Its first class has the given share where that fits. In one of three
+/// tables no other charge is rounded, so that finishes of unlike packets can be equal.
 pub fn random_table(shape: Shape, first_share: u32, random: &mut Random) -> Vec<Row> {
-    let names = identifiers(random);
+    let mut growing = Growing::new(identifiers(random), random.one_in(3));
     let goal = match shape {
-        Shape::Even => return even(&[random.between(2, 40)], names),
+        Shape::Even => return growing.even(&[random.between(2, 40)], random),
         Shape::Groups => {
             let fans = [random.between(2, 6), random.between(2, 8)];
-            return even(&fans, names);
+            return growing.even(&fans, random);
         }
-        Shape::Levels => return even(&random_fans(random), names),
-        Shape::Full => return full_table(first_share, names, random),
+        Shape::Levels => return growing.even(&random_fans(random), random),
+        Shape::Full => return growing.full(first_share, random),
         Shape::Two => 2,
         Shape::Flat => random.between(3, 40),
         Shape::Chain => random.between(3, 1 + MOST_DEPTH),
@@ -62,10 +63,9 @@ pub fn random_table(shape: Shape, first_share: u32, random: &mut Random) -> Vec<
         Shape::Wide => random.between(20, 80),
         Shape::Any => random.between(3, 60),
     };
-    let mut growing = Growing::new(names);
     growing.grow(shape, goal, first_share, random);
     if shape != Shape::Two && random.one_in(2) {
-        growing.fill();
+        growing.fill(random);
     }
     growing.rows
 }
@@ -78,38 +78,11 @@ fn random_fans(random: &mut Random) -> Vec<usize> {
     (0..levels).map(fan).collect()
 }
 
-/// A table with this many classes under each row, level by level, and equal shares. Its
-/// identifiers are 1, 2 and so on.
+/// A table with this many classes under each row, level by level, and equal shares, under which no
+/// charge is rounded. Its identifiers are 1, 2 and so on.
 pub fn even_table(fans: &[usize]) -> Vec<Row> {
-    even(fans, (1..=MOST_ROWS as u32).collect())
-}
-
-fn even(fans: &[usize], names: Vec<u32>) -> Vec<Row> {
-    let mut growing = Growing::new(names);
-    let mut level = vec![0];
-    for fan in fans {
-        let first = growing.rows.len();
-        let share = greatest_share(WHOLE / *fan as u32);
-        for parent in level {
-            (0..*fan).for_each(|_| growing.add(parent, share));
-        }
-        level = (first..growing.rows.len()).collect();
-    }
-    growing.rows
-}
-
-/// 256 rows, most of the rows with children giving all that they have.
-fn full_table(first_share: u32, names: Vec<u32>, random: &mut Random) -> Vec<Row> {
-    let shape = random.pick(&[Shape::Flat, Shape::Deep, Shape::Wide, Shape::Any]);
-    let first_share = first_share.min(WHOLE / 2);
-    let mut growing = Growing::new(names);
-    if shape != Shape::Flat {
-        let goal = random.between(120, 220);
-        growing.grow(shape, goal, first_share, random);
-        growing.fill();
-    }
-    growing.grow(shape, MOST_ROWS, first_share, random);
-    growing.rows
+    let growing = Growing::new((1..=MOST_ROWS as u32).collect(), true);
+    growing.even(fans, &mut Random::new(0, 0))
 }
 
 /// A table as it grows: besides its rows, what each row still has to give.
@@ -118,10 +91,12 @@ struct Growing {
     depths: Vec<usize>,
     left: Vec<u32>,
     names: Vec<u32>,
+    /// Whether shares are such that no charge is rounded.
+    exact: bool,
 }
 
 impl Growing {
-    fn new(names: Vec<u32>) -> Growing {
+    fn new(names: Vec<u32>, exact: bool) -> Growing {
         let root = Row {
             identifier: names[0],
             parent: 0,
@@ -132,7 +107,40 @@ impl Growing {
             depths: vec![0],
             left: vec![WHOLE],
             names,
+            exact,
         }
+    }
+
+    /// This many classes under each row, level by level, and equal shares: as large as they may
+    /// be, or at least half of that where charges may be rounded.
+    fn even(mut self, fans: &[usize], random: &mut Random) -> Vec<Row> {
+        let mut level = vec![0];
+        for fan in fans {
+            let first = self.rows.len();
+            let most = WHOLE as usize / fan;
+            let share = match self.exact {
+                true => self.fitting(most as u32),
+                false => random.between(most.div_ceil(2), most) as u32,
+            };
+            for parent in level {
+                (0..*fan).for_each(|_| self.add(parent, share));
+            }
+            level = (first..self.rows.len()).collect();
+        }
+        self.rows
+    }
+
+    /// 256 rows, most of the rows with children giving all that they have.
+    fn full(mut self, first_share: u32, random: &mut Random) -> Vec<Row> {
+        let shape = random.pick(&[Shape::Flat, Shape::Deep, Shape::Wide, Shape::Any]);
+        let first_share = first_share.min(WHOLE / 2);
+        if shape != Shape::Flat {
+            let goal = random.between(120, 220);
+            self.grow(shape, goal, first_share, random);
+            self.fill(random);
+        }
+        self.grow(shape, MOST_ROWS, first_share, random);
+        self.rows
     }
 
     fn add(&mut self, parent: usize, share: u32) {
@@ -159,8 +167,9 @@ impl Growing {
                 _ => self.left[parent],
             };
             let share = match self.rows.len() {
-                1 => greatest_share(first_share.min(most)),
-                _ => random_share(most, random),
+                1 if first_share <= most => first_share,
+                1 => self.fitting(most),
+                _ => self.share(most, random),
             };
             self.add(parent, share);
         }
@@ -187,13 +196,35 @@ impl Growing {
     }
 
     /// Gives all that is left of each parent to further classes below it.
-    fn fill(&mut self) {
+    fn fill(&mut self, random: &mut Random) {
         for row in 0..self.rows.len() {
             let begun = self.left[row] < WHOLE;
             while begun && self.left[row] > 0 && self.rows.len() < MOST_ROWS {
-                self.add(row, greatest_share(self.left[row]));
+                let most = self.left[row];
+                let share = match random.one_in(2) {
+                    true => self.fitting(most),
+                    false => self.share(most, random),
+                };
+                self.add(row, share);
             }
         }
+    }
+
+    /// Some share up to this number, which must not be 0.
+    fn share(&self, most: u32, random: &mut Random) -> u32 {
+        let wish = match random.below(4) {
+            0 => most,
+            1 => most / random.between(2, 6) as u32,
+            2 => any_share(random),
+            _ => random.between(1, most as usize) as u32,
+        };
+        self.fitting(wish.clamp(1, most))
+    }
+
+    /// The greatest share up to this number that the table may have.
+    fn fitting(&self, most: u32) -> u32 {
+        let fits = |share: &u32| !self.exact || is_exact(*share);
+        (1..=most).rev().find(fits).unwrap_or(1)
     }
 }
 
@@ -204,24 +235,8 @@ fn most_of_flat(left: u32, to_come: u32, spread: bool) -> u32 {
     part.min(left - (to_come - 1))
 }
 
-pub fn allowed_shares() -> Vec<u32> {
-    (1..=WHOLE).filter(|s| is_allowed(*s)).collect()
-}
-
-/// The greatest allowed share up to this number, which must not be 0.
-pub fn greatest_share(most: u32) -> u32 {
-    let fits = (1..=most.min(WHOLE)).rev().find(|s| is_allowed(*s));
-    fits.unwrap_or(1)
-}
-
-fn random_share(most: u32, random: &mut Random) -> u32 {
-    let wish = match random.below(4) {
-        0 => most,
-        1 => most / random.between(2, 6) as u32,
-        2 => random.below(WHOLE as usize) as u32,
-        _ => random.between(1, most as usize) as u32,
-    };
-    greatest_share(wish.clamp(1, most))
+pub fn any_share(random: &mut Random) -> u32 {
+    random.between(1, WHOLE as usize) as u32
 }
 
 /// Distinct identifiers for a full table: small, large, of many lengths or any.
@@ -338,12 +353,24 @@ mod tests {
     }
 
     #[test]
-    fn there_are_95_shares_and_each_can_come_first() {
-        let shares = allowed_shares();
-        assert_eq!(shares.len(), 95);
-        for share in shares {
-            let rows = random_table(Shape::Any, share, &mut Random::new(1, 1));
+    fn each_share_can_come_first_and_at_other_places() {
+        let mut others = BTreeSet::new();
+        for share in 1..=WHOLE {
+            let rows = random_table(Shape::Any, share, &mut Random::new(1, share.into()));
             assert_eq!(rows[1].share, share);
+            others.extend(rows[2..].iter().map(|row| row.share));
+        }
+        assert!(others.len() > 700);
+    }
+
+    #[test]
+    fn some_tables_round_no_charge_and_most_do() {
+        for shape in SHAPES {
+            let exact = |rows: &Vec<Row>| rows[1..].iter().all(|row| is_exact(row.share));
+            let count = tables(shape).filter(exact).count();
+            // The only class of the smallest tables has the share that is asked for.
+            let most = if shape == Shape::Two { 200 } else { 140 };
+            assert!((40..=most).contains(&count), "{shape:?}: {count}");
         }
     }
 

@@ -4,8 +4,10 @@
 use std::collections::BTreeSet;
 
 use second::sheet::climb;
-use second::{inside, run, sentence, EventSlices, Room, TableSlices, MOST_BYTES, REPORT_WIDTH};
-use trials::{random_events, random_table, Case, Event, Random, Row, FINISH, SHAPES};
+use second::{
+    inside, is_exact, run, sentence, EventSlices, Room, TableSlices, MOST_BYTES, REPORT_WIDTH,
+};
+use trials::{any_share, random_events, random_table, Case, Event, Random, Row, FINISH, SHAPES};
 
 const LISTS: u64 = 3000;
 
@@ -30,7 +32,7 @@ struct Trace {
 }
 
 /// Shows each list in turn to a check.
-fn each_list(check: fn(&mut Run)) {
+fn each_list(mut check: impl FnMut(&mut Run)) {
     for list in 1..=LISTS {
         let mut random = Random::new(840, list);
         let rows = some_table(&mut random);
@@ -54,8 +56,7 @@ fn each_list(check: fn(&mut Run)) {
 /// A table of any shape but the last, a full one, which takes long here.
 fn some_table(random: &mut Random) -> Vec<Row> {
     let shape = random.pick(&SHAPES[..SHAPES.len() - 1]);
-    let first_share = random.between(1, 840) as u32;
-    random_table(shape, first_share, random)
+    random_table(shape, any_share(random), random)
 }
 
 /// The results of a list that must be accepted, the order without what is left of its slice.
@@ -139,6 +140,12 @@ impl Run {
     fn bytes(&self, row: usize, events: std::ops::Range<usize>) -> u64 {
         let lengths = self.finished(row, events).map(|event| event.length);
         lengths.map(u64::from).sum()
+    }
+
+    /// What rounding may add over these events: a tick for each packet that the row finished, and
+    /// two more.
+    fn ticks(&self, row: usize, events: std::ops::Range<usize>) -> u64 {
+        self.finished(row, events).count() as u64 + 2
     }
 
     /// The first event of the stretch, up to this event, in which the row always holds packets.
@@ -285,15 +292,20 @@ fn lags_are_those_the_order_tells_and_never_over_the_bound() {
     each_list(|run| {
         let (last, cut) = run.cut();
         let results = accepted(&cut);
-        let bound = 2520 * run.largest() as i64;
+        let largest = run.largest() as i64;
         assert_eq!(results.lags[0], 0);
         for (row, path) in run.paths.iter().enumerate().skip(1) {
-            let lag = run.backlog_since(row, last).map_or(0, |since| {
-                let [own, parents] = [row, path[1]].map(|r| run.bytes(r, since..last + 1) as i64);
-                i64::from(run.case.rows[row].share) * parents - 840 * own
-            });
+            let Some(since) = run.backlog_since(row, last) else {
+                assert_eq!(results.lags[row], 0);
+                continue;
+            };
+            let stretch = since..last + 1;
+            let [own, parents] = [row, path[1]].map(|r| run.bytes(r, stretch.clone()) as i64);
+            let share = i64::from(run.case.rows[row].share);
+            let lag = share * parents - 840 * own;
             assert_eq!(results.lags[row], lag);
-            assert!(lag <= bound);
+            let ticks = run.ticks(row, stretch) as i64;
+            assert!(840 * lag <= 840 * 2520 * largest + share * ticks);
         }
     });
 }
@@ -312,53 +324,99 @@ fn tags_and_byte_counts_are_never_over_the_bound() {
     });
 }
 
-/// The most the whole line can have sent while this class waited, as a
-/// numerator and a denominator, from the class's own bytes.
-fn most_of_the_line(shares: &[u32], own: u32, three: u64) -> (u128, u128) {
-    let (mut numerator, mut denominator) = (u128::from(own), 1);
-    for share in shares {
-        numerator = (numerator + u128::from(three) * denominator) * 840;
-        denominator *= u128::from(*share);
+/// The most the whole line can have sent while a class waited, as a numerator and a
+/// denominator, from the class's own bytes and, for each step up, its share and its ticks.
+fn most_of_the_line(steps: &[(u32, u64)], own: u32, three: u64) -> (u128, u128) {
+    // The denominator is 840 times the product of the shares so far.
+    let (mut numerator, mut product) = (840 * u128::from(own), 1);
+    for (share, ticks) in steps {
+        numerator = (numerator + 840 * u128::from(three) * product) * 840;
+        product *= u128::from(*share);
+        numerator += u128::from(*ticks) * product;
     }
-    (numerator, denominator)
+    (numerator, 840 * product)
 }
 
-/// The sheet's last figure is the same number, unless that is large unreduced.
-fn sheet_agrees(shares: &[u32], own: u32, three: u64) {
-    let (numerator, denominator) = most_of_the_line(shares, own, three);
-    let figures = climb(own, three, shares);
+fn same_ticks(shares: &[u32], ticks: u64) -> Vec<(u32, u64)> {
+    shares.iter().map(|share| (*share, ticks)).collect()
+}
+
+fn common_divisor(a: u128, b: u128) -> u128 {
+    match b {
+        0 => a,
+        _ => common_divisor(b, a % b),
+    }
+}
+
+/// The sheet's last figure is the same number in lowest terms, unless that is large unreduced.
+fn sheet_agrees(shares: &[u32], own: u32, three: u64, ticks: u64) {
+    let (numerator, denominator) = most_of_the_line(&same_ticks(shares, ticks), own, three);
+    let figures = climb(own, three, ticks, shares);
     match figures.last().copied().flatten() {
         Some(figure) => {
-            let [above, below] = [figure.numerator, figure.denominator].map(u128::from);
-            assert_eq!(above * denominator, numerator * below);
+            let divisor = common_divisor(numerator, denominator);
+            assert_eq!(u128::from(figure.numerator), numerator / divisor);
+            assert_eq!(u128::from(figure.denominator), denominator / divisor);
         }
         None => assert!(numerator > u128::from(u64::MAX)),
     }
 }
 
+/// Some stretch in which a class other than the root always held packets, if one is found.
+fn some_stretch(run: &mut Run) -> Option<(usize, std::ops::Range<usize>)> {
+    let class = run.random.between(1, run.case.rows.len() - 1);
+    let last = run.random.below(run.case.events.len());
+    let since = run.backlog_since(class, last)?;
+    Some((class, run.random.between(since, last)..last + 1))
+}
+
 #[test]
 fn a_waiting_class_gets_its_part_of_the_whole_line() {
+    // Classes with a share on their way up that rounds, with one elsewhere, and with none.
+    let mut seen = [0; 3];
     each_list(|run| {
         for _ in 0..20 {
-            let class = run.random.between(1, run.case.rows.len() - 1);
-            let last = run.random.below(run.case.events.len());
-            let Some(since) = run.backlog_since(class, last) else {
+            let Some((class, stretch)) = some_stretch(run) else {
                 continue;
             };
-            let stretch = run.random.between(since, last)..last + 1;
             let own = run.bytes(class, stretch.clone()) as u32;
-            let line = run.bytes(0, stretch);
-            let shares = shares(&run.case.rows, &run.paths[class]);
+            let line = run.bytes(0, stretch.clone());
             let three = 3 * run.largest();
-            let (numerator, denominator) = most_of_the_line(&shares, own, three);
-            assert!(u128::from(line) * denominator <= numerator);
-            let sheet = climb(own, three, &shares);
+            let holds = |steps: &[(u32, u64)]| {
+                let (numerator, denominator) = most_of_the_line(steps, own, three);
+                u128::from(line) * denominator <= numerator
+            };
+            let shares = shares(&run.case.rows, &run.paths[class]);
+            let rows = run.paths[class].iter().zip(&shares);
+            let steps = rows.map(|(row, share)| (*share, run.ticks(*row, stretch.clone())));
+            let steps: Vec<(u32, u64)> = steps.collect();
+            assert!(holds(&steps));
+            let exact = shares.iter().all(|share| is_exact(*share));
+            assert!(!exact || holds(&same_ticks(&shares, 0)));
+            let all_exact = run.case.rows[1..].iter().all(|row| is_exact(row.share));
+            seen[usize::from(exact) + usize::from(all_exact)] += 1;
+            // No row on the way up finished more packets than the last.
+            let most = steps.last().map_or(2, |(_, ticks)| *ticks);
+            let sheet = climb(own, three, most, &shares);
             if let Some(figure) = sheet.last().copied().flatten() {
                 assert!(line <= figure.rounded_up());
             }
-            sheet_agrees(&shares, own, three);
         }
     });
+    assert!(seen.iter().all(|count| *count > 1000), "{seen:?}");
+}
+
+#[test]
+fn a_sheet_has_the_number_for_the_line() {
+    let mut random = Random::new(840, 1);
+    for _ in 0..20_000 {
+        let depth = random.between(1, 8);
+        let shares: Vec<u32> = (0..depth).map(|_| any_share(&mut random)).collect();
+        let three = 3 * random.between(1, MOST_BYTES as usize) as u64;
+        let [own, packets] = [(); 2].map(|()| random.word() >> random.below(32));
+        sheet_agrees(&shares, own, three, u64::from(packets) + 2);
+        sheet_agrees(&shares, own, three, 0);
+    }
 }
 
 #[test]
@@ -372,9 +430,11 @@ fn more_own_bytes_give_no_smaller_number() {
         let three = 3 * random.between(1, MOST_BYTES as usize) as u64;
         let less = random.word() >> random.below(32);
         let more = less.saturating_add(random.word() >> random.below(32));
-        sheet_agrees(&shares, less, three);
-        sheet_agrees(&shares, more, three);
-        let last = [less, more].map(|own| climb(own, three, &shares).last().copied().flatten());
+        let ticks = u64::from(random.word() >> random.below(32)) + 2;
+        sheet_agrees(&shares, less, three, ticks);
+        sheet_agrees(&shares, more, three, ticks);
+        let last =
+            [less, more].map(|own| climb(own, three, ticks, &shares).last().copied().flatten());
         if let [Some(one), Some(other)] = last {
             let products = [(one, other), (other, one)]
                 .map(|(a, b)| u128::from(a.numerator) * u128::from(b.denominator));

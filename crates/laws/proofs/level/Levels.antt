@@ -19,7 +19,7 @@ use Rattle.laws.specs.Level.{Mode, idle, waits, taken, Due, Behind}
 use Rattle.laws.specs.Kept.{weight, spare, mode, Taken, none, one, Ahead, Balanced}
 use Rattle.laws.proofs.level.Heads.{same-row}
 use Rattle.laws.proofs.tree.Paths.{one-child}
-use Rattle.laws.proofs.tree.Trees.{share-whole, share-rest, charge-exact, charge-covers}
+use Rattle.laws.proofs.tree.Trees.{share-whole, share-rest, charge-covers, charge-rounded}
 use Rattle.laws.proofs.level.Balance.{Apart, zero-behind, same-behind, wake-behind, renew-behind, drop-behind, pick-behind, due-behind}
 use Rattle.laws.proofs.level.Modes.{Waiting, shares-whole, weight-kid, not-root, mode-taken, mode-waits, mode-idle, mode-says, mode-same}
 
@@ -165,7 +165,7 @@ module _ (tree : Tree) (sound : Sound tree) (big : ℕ → ℕ) (wider : (j : �
           let kid = pick .kid in
           let allows = sound .share-allowed k (kid .positive) (kid .inside) in
           let fits = share-whole w allows in
-          let costs = charge-exact w l allows in
+          let costs = charge-rounded w l allows in
           let ends = mul-add w (start b k) (charge l w) in
           let passed = mul-add w (pick .raised) (ticks * l) in
           let own = mul-left-comm w ticks l in

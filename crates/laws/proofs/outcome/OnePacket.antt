@@ -12,7 +12,7 @@ use borrow.Author.Tests.{ltb-true}
 use Rattle.input.specs.Classes.{Tree, tree-of}
 use Rattle.input.specs.Events.{Events, count}
 use Rattle.rules.specs.Outcome.{Lent, outcome}
-use Rattle.rules.specs.Promise.{largest, bytes-for, line-bytes, finished-in, holds, Backlogged, Ratio, line-most, Promised}
+use Rattle.rules.specs.Promise.{largest, bytes-for, line-bytes, finished-in, holds, Backlogged, Ratio, line-most, ticks-for, Promised}
 use Rattle.rules.specs.Worked.{row, packet, finish, lend}
 use Rattle.rules.proofs.Computing.{computing}
 use Rattle.laws.proofs.outcome.Run.{sent}
@@ -65,7 +65,7 @@ not-below x y passes below = let above = ltb-true y x passes in omega arith
 -- the run is done; class 10, in row 1, holds a packet after each of the last three events; the line passes the number
 pub one-is-not-enough :
     (outcome passed-by .answer .number ≡ 0) × Backlogged (tree passed-by) (passed-by .events) (sent (outcome passed-by)) 1 4 7
-    × (Promised (tree passed-by) (passed-by .events) (sent (outcome passed-by)) 1 (largest-of passed-by) 1 4 7 → ⊥)
+    × (Promised (tree passed-by) (passed-by .events) (sent (outcome passed-by)) 1 (largest-of passed-by) (ticks-for (tree passed-by) (passed-by .events)) 1 4 7 → ⊥)
 unfolding computing holding passed-by
 one-is-not-enough = (refl, backlogged (tree passed-by) (passed-by .events) (sent (outcome passed-by)) 1 4 3 refl, not-below _ _ refl)
 
@@ -88,7 +88,9 @@ passed-longer =
 
 abbrev tenths : ℕ → ℕ → ℕ → ℕ → Ratio
 tenths packets k a b =
-    line-most (tree passed-longer) packets (largest-of passed-longer) k (10 * bytes-for (tree passed-longer) (passed-longer .events) k (finished-by passed-longer a b))
+    line-most (tree passed-longer) packets (largest-of passed-longer)
+    (λ r. 10 * ticks-for (tree passed-longer) (passed-longer .events) (finished-by passed-longer a b) r) k
+    (10 * bytes-for (tree passed-longer) (passed-longer .events) k (finished-by passed-longer a b))
 
 -- the same for class 10 from its first packet's finish to the end: ten times what the line finished passes the number from ten times
 -- class 10's own bytes with nineteen largest packets a step

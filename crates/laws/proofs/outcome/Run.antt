@@ -1,37 +1,41 @@
 -- The theorems on a run, said of the lent slices that it leaves: whatever was lent, where the answer's number is 0.
 -- Assumes nothing.
-use Prim.Native.Nat.{ℕ, _+_, _*_, _≤_, _<_}
+use Prim.Native.Nat.{ℕ, suc, _+_, _*_, _%_, _≤_, _<_}
 use mathlib.Core.Path.{_≡_, sym, _∙_, ap, subst}
 use mathlib.Core.Logic.{_≢_, _⊎_, inl, inr}
 use mathlib.Core.Bool.{Bool, true, false, cond, not}
 use mathlib.Core.List.{List, map}
 use native.Mathlib.Decide.{ℕ-discrete}
+use native.Mathlib.Nat.{le-refl, mul-le-mul-right}
 use native.Mathlib.Omega.{arith}
 use lib.Dec.{eqb}
 use lib.ListN.{length, getD, take}
 use lib.IntN.{pos}
 use borrow.Author.Tests.{ne-eqb}
 use Rattle.input.specs.declared.Event.the-variants.{Arrival}
-use Rattle.input.specs.Limits.{report-words, whole, packets-a-step}
-use Rattle.input.specs.Classes.{Tree, tree-of, row-of, on-air}
+use Rattle.input.specs.Limits.{report-words, whole, ticks, scale, packets-a-step}
+use Rattle.input.specs.Classes.{Tree, tree-of, row-of, on-air, parent, share}
 use Rattle.input.specs.Events.{Events, count, class-word, length-word, event}
 use Rattle.input.specs.Refusals.{table-refused}
 use Rattle.rules.specs.Box.{held-by}
 use Rattle.rules.specs.Steps.{after}
 use Rattle.rules.specs.Outcome.{Lent, Outcome, row-report, lag, room-of, Ran}
-use Rattle.rules.specs.Promise.{finish-count, arrived, largest, packets-for, bytes-for, finished, holds, Backlogged, line-most, Promised}
+use Rattle.rules.specs.Promise.{finish-count, arrived, largest, packets-for, bytes-for, finished, finished-in, holds, Backlogged, line-most}
+use Rattle.rules.specs.Promise.{ticks-for, no-ticks, Promised}
 use Rattle.laws.specs.Sound.{ApartOnAir, Sender}
-use Rattle.laws.specs.History.{Accepted, LagSince, arrivals-of, only-for}
+use Rattle.laws.specs.Rounding.{rounding, rounded-ticks, Exact}
+use Rattle.laws.specs.History.{Accepted, largest-for, LagSince, arrivals-of, only-for}
 use Rattle.laws.specs.Shorter.{cut}
-use Rattle.laws.proofs.tree.Trees.{table-passes, accepted}
+use Rattle.laws.proofs.tree.Trees.{rounding-most, rounding-none, table-passes, accepted}
 use Rattle.laws.proofs.tree.OnAir.{none-cut, apart-on-air}
 use Rattle.laws.proofs.event.Turns.{fewer}
 use Rattle.laws.proofs.run.History.{bytes-counted, held-counted, holds-held, order-grows, order-length, first-in-first-out, once}
 use Rattle.laws.proofs.run.Idle.{busy-is-held}
 use Rattle.laws.proofs.run.Sent.{order-arrived}
-use Rattle.laws.proofs.share.Promise.{promised, no-lag, lag-bound}
-use Rattle.laws.proofs.share.LineMost.{denominator-some, more-packets}
-use Rattle.laws.proofs.share.Lags.{lag-since}
+use Rattle.laws.proofs.share.Promise.{promised, no-lag}
+use Rattle.laws.proofs.share.LineMost.{denominator-some, more-promised}
+use Rattle.laws.proofs.share.Lags.{lag-since, last-empty, lag-most}
+use Rattle.laws.proofs.share.Index.{counted-index}
 use Rattle.laws.proofs.outcome.Shorter.{first-last, shorter-passes}
 use Rattle.laws.proofs.outcome.Results.{accepted-done, not-refused, count-is, order-is, word-is, lag-is}
 
@@ -166,25 +170,73 @@ module _ (lent : Lent) (left : Outcome) (ran : Ran lent left) (done : left .answ
   -- ── the promise on shares ──
 
   -- for any row that holds a packet after each event of a stretch, a class or the root, of which it says nothing new: two largest packets
-  -- a step are enough
+  -- a step are enough, and ticks only where a share does not divide the scale
+  pub share-is-rounded :
+      (k a b : ℕ) → k < tree .rows → a ≤ b → b ≤ all → Backlogged tree events (sent left) k a b
+      → Promised tree events (sent left) 2 (largest events all) (rounded-ticks tree events) k a b
+  share-is-rounded k a b inside order within-all =
+      subst (λ (order : List ℕ). Backlogged tree events order k a b → Promised tree events order 2 (largest events all) (rounded-ticks tree events) k a b)
+      (sym order-left) (promised tree events all ok k a b inside order within-all)
+
   pub share-is-two-packets :
       (k a b : ℕ) → k < tree .rows → a ≤ b → b ≤ all → Backlogged tree events (sent left) k a b
-      → Promised tree events (sent left) 2 (largest events all) k a b
-  share-is-two-packets k a b inside order within =
-      subst (λ (order : List ℕ). Backlogged tree events order k a b → Promised tree events order 2 (largest events all) k a b) (sym order-left)
-      (promised tree events all ok k a b inside order within)
+      → Promised tree events (sent left) 2 (largest events all) (ticks-for tree events) k a b
+  unfolding rounded-ticks
+  share-is-two-packets k a b inside order within-all backlogged =
+      more-promised tree (ok .sound) events (sent left) 2 2 (largest events all) (rounded-ticks tree events) (ticks-for tree events) k a b inside (omega arith)
+      (λ r positive on.
+      let one = mul-le-mul-right (ticks-for tree events (finished-in events (sent left) a b) r) (rounding-most (share tree r)) in
+      omega arith)
+      (share-is-rounded k a b inside order within-all backlogged)
 
   -- the number that is asked for
   pub share-is-a-number :
       (k a b : ℕ) → k < tree .rows → a ≤ b → b ≤ all → Backlogged tree events (sent left) k a b
-      → Promised tree events (sent left) packets-a-step (largest events all) k a b
-  share-is-a-number k a b inside order within backlogged =
-      more-packets tree events (sent left) 2 packets-a-step (largest events all) k a b (omega arith)
-      (share-is-two-packets k a b inside order within backlogged)
+      → Promised tree events (sent left) packets-a-step (largest events all) (ticks-for tree events) k a b
+  share-is-a-number k a b inside order within-all backlogged =
+      more-promised tree (ok .sound) events (sent left) 2 packets-a-step (largest events all) (ticks-for tree events) (ticks-for tree events) k a b inside
+      (omega arith) (λ r positive on. le-refl _)
+      (share-is-two-packets k a b inside order within-all backlogged)
+
+  -- no tick is needed where every share on the row's own path divides the scale, whatever the others have
+  pub exact-share-is-two-packets :
+      (k a b : ℕ) → k < tree .rows → a ≤ b → b ≤ all → Backlogged tree events (sent left) k a b → Exact tree k
+      → Promised tree events (sent left) 2 (largest events all) no-ticks k a b
+  unfolding rounded-ticks no-ticks
+  exact-share-is-two-packets k a b inside order within-all backlogged exact =
+      more-promised tree (ok .sound) events (sent left) 2 2 (largest events all) (rounded-ticks tree events) no-ticks k a b inside (omega arith)
+      (λ r positive on. rw (rounding-none (share tree r) (exact r positive on)) (omega arith))
+      (share-is-rounded k a b inside order within-all backlogged)
+
+  pub exact-share-is-a-number :
+      (k a b : ℕ) → k < tree .rows → a ≤ b → b ≤ all → Backlogged tree events (sent left) k a b → Exact tree k
+      → Promised tree events (sent left) packets-a-step (largest events all) no-ticks k a b
+  exact-share-is-a-number k a b inside order within-all backlogged exact =
+      more-promised tree (ok .sound) events (sent left) 2 packets-a-step (largest events all) no-ticks no-ticks k a b inside (omega arith)
+      (λ r positive on. le-refl _)
+      (exact-share-is-two-packets k a b inside order within-all backlogged exact)
 
   -- it is a number: its denominator is above 0
-  pub share-denominator : (packets largest k own : ℕ) → k < tree .rows → 0 < line-most tree packets largest k own .denominator
-  share-denominator packets largest = denominator-some tree (ok .sound) packets largest
+  pub share-denominator :
+      (packets largest : ℕ) (more : ℕ → ℕ) (k own : ℕ) → k < tree .rows → 0 < line-most tree packets largest more k own .denominator
+  share-denominator packets largest more = denominator-some tree (ok .sound) packets largest more
+
+  -- ── the worst-case fair index ──
+
+  -- row k has a parent p, which chose at event i, since it finished a packet there or held none before; at event j a packet of k was
+  -- finished, and k held packets all the while. What p finished after i up to j, times k's share, is at most what k finished, times the
+  -- whole, and one largest packet of k's part, and the share times the difference of both largest packets; with a tick for each packet that
+  -- k finished and one more, where its share does not divide the scale
+  pub fair-index :
+      (k i j : ℕ) → 0 < k → k < tree .rows → i < j → j < all → Backlogged tree events (sent left) k i j
+      → (0 < bytes-for tree events (parent tree k) (finished-in events (sent left) i (suc i))) ⊎ (holds tree events (sent left) (parent tree k) i ≡ 0)
+      → 0 < bytes-for tree events k (finished-in events (sent left) j (suc j))
+      → ticks * (share tree k * (bytes-for tree events (parent tree k) (finished-in events (sent left) (suc i) (suc j)) + largest-for tree events k all))
+      ≤ ticks
+      * (share tree k * largest-for tree events (parent tree k) all
+      + whole * (bytes-for tree events k (finished-in events (sent left) (suc i) (suc j)) + largest-for tree events k all))
+      + share tree k * (rounding (share tree k) * suc (packets-for tree events k (finished-in events (sent left) (suc i) (suc j))))
+  fair-index k i j positive inside = rw order-left (counted-index tree events all ok k i j positive inside)
 
   -- ── lags ──
 
@@ -198,11 +250,47 @@ module _ (lent : Lent) (left : Outcome) (ran : Ran lent left) (done : left .answ
   pub lag-none : (r : ℕ) → r < tree .rows → (r ≡ 0) ⊎ (reported left r 4 ≡ 0) → getD (left .lags) r (pos 0) ≡ pos 0
   lag-none r inside quiet = lag-left r inside ∙ no-lag tree events all ok r all (rw (held-left r inside) at quiet)
 
-  -- no lag is above two largest packets, so none above the three that are promised
-  pub no-lag-above-two :
-      (r lagging : ℕ) → r < tree .rows → getD (left .lags) r (pos 0) ≡ pos lagging → lagging ≤ 2 * whole * largest events all
-  no-lag-above-two r lagging inside is = lag-bound tree events all ok r all lagging inside (omega arith) (sym (lag-left r inside) ∙ is)
+  -- every row has a last empty moment
+  pub last-empty-moment :
+      (r : ℕ) → r < tree .rows → (from : ℕ) × (from ≤ all) × (holds tree events (sent left) r from ≡ 0) × Backlogged tree events (sent left) r from all
+  last-empty-moment r inside = rw order-left (last-empty tree events all ok r inside)
 
+  -- no lag is above two largest packets and the rounding since then
+  lag-rounded :
+      (r from lagging : ℕ) → r < tree .rows → from ≤ all → holds tree events (sent left) r from ≡ 0 → Backlogged tree events (sent left) r from all
+      → getD (left .lags) r (pos 0) ≡ pos lagging
+      → ticks * lagging
+      ≤ ticks * (2 * whole * largest events all) + share tree r * rounded-ticks tree events (finished-in events (sent left) from all) r
+  lag-rounded r from lagging inside earlier =
+      rw (order-left, lag-left r inside) (lag-most tree events all ok r from lagging inside earlier)
+
+  pub no-lag-above-two :
+      (r from lagging : ℕ) → r < tree .rows → from ≤ all → holds tree events (sent left) r from ≡ 0 → Backlogged tree events (sent left) r from all
+      → getD (left .lags) r (pos 0) ≡ pos lagging
+      → ticks * lagging ≤ ticks * (2 * whole * largest events all) + share tree r * ticks-for tree events (finished-in events (sent left) from all) r
+  unfolding rounded-ticks
+  no-lag-above-two r from lagging inside earlier empty backlogged is =
+      let rounded = lag-rounded r from lagging inside earlier empty backlogged is in
+      let since = ticks-for tree events (finished-in events (sent left) from all) r in
+      let one = mul-le-mul-right (share tree r * since) (rounding-most (share tree r)) in
+      omega arith
+
+  -- so none is above the three that are promised
   pub no-lag-above :
-      (r lagging : ℕ) → r < tree .rows → getD (left .lags) r (pos 0) ≡ pos lagging → lagging ≤ packets-a-step * whole * largest events all
-  no-lag-above r lagging inside is = let two = no-lag-above-two r lagging inside is in omega arith
+      (r from lagging : ℕ) → r < tree .rows → from ≤ all → holds tree events (sent left) r from ≡ 0 → Backlogged tree events (sent left) r from all
+      → getD (left .lags) r (pos 0) ≡ pos lagging
+      → ticks * lagging
+      ≤ ticks * (packets-a-step * whole * largest events all) + share tree r * ticks-for tree events (finished-in events (sent left) from all) r
+  no-lag-above r from lagging inside earlier empty backlogged is =
+      let two = no-lag-above-two r from lagging inside earlier empty backlogged is in
+      omega arith
+
+  -- without ticks where the row's own share divides the scale
+  pub no-exact-lag-above :
+      (r lagging : ℕ) → r < tree .rows → scale % share tree r ≡ 0 → getD (left .lags) r (pos 0) ≡ pos lagging
+      → lagging ≤ 2 * whole * largest events all
+  unfolding rounded-ticks
+  no-exact-lag-above r lagging inside exact is =
+      let (from, earlier, empty, backlogged) = last-empty-moment r inside in
+      let rounded = rw (rounding-none (share tree r) exact) at (lag-rounded r from lagging inside earlier empty backlogged is) in
+      omega arith

@@ -7,15 +7,14 @@ use mathlib.Core.Bool.{Bool, true, false}
 use native.Mathlib.Decide.{ℕ-discrete, decLe}
 use native.Mathlib.Nat.{le-trans, mul-suc, mul-le-mul-left, mul-le-mul-right}
 use native.Mathlib.Omega.{arith}
-use lib.Dec.{T}
 use lib.ListN.{getD}
 use Rattle.input.specs.Limits.{scale, whole, most-bytes}
-use Rattle.input.specs.Shares.{allowed, charge}
 use Rattle.input.specs.Classes.{Tree, parent, share}
 use Rattle.input.specs.Events.{Events, length-word}
 use Rattle.rules.specs.Box.{Box, Rows, fresh, start, finish, virtual, head, head-length, bytes-of, held-by}
 use Rattle.rules.specs.Steps.{arrival, departure, after}
 use Rattle.rules.specs.Promise.{within}
+use Rattle.input.proofs.Charges.{charge-most}
 use Rattle.laws.specs.Sound.{Sound, Kid, Inner, Sender}
 use Rattle.laws.specs.Moves.{Others, Still, Headed, Dropped, Pick, Arriving, joins, opens, Departing, renews, passes-on, empties, ArrivalAt, DepartureAt}
 use Rattle.laws.specs.Kept.{Kept}
@@ -25,7 +24,7 @@ use Rattle.rules.specs.Box.{line-class, left}
 use Rattle.laws.proofs.path.Tests.{cond-most, cond-least}
 use Rattle.laws.proofs.tree.Paths.{its-parent, parent-is-inner}
 use Rattle.laws.proofs.tree.Depths.{sender-or-inner}
-use Rattle.laws.proofs.tree.Trees.{share-positive, share-whole, charge-close}
+use Rattle.laws.proofs.tree.Trees.{share-whole}
 use Rattle.laws.proofs.path.ArrivalPath.{arrives-quiet}
 use Rattle.laws.proofs.path.DeparturePath.{departs-quiet}
 use Rattle.laws.proofs.event.Turns.{class-at, fewer, turn}
@@ -33,19 +32,6 @@ use Rattle.laws.proofs.event.Outset.{zeros-at}
 use Rattle.laws.proofs.event.OneEvent.{arrival-at, arrival-held, arrival-bytes, arrival-since, arrival-parent-since, mark-most}
 use Rattle.laws.proofs.event.OneEvent.{left-next, departure-on, departure-off, departure-bytes}
 use Rattle.laws.proofs.event.Keeping.{arrival-kept, departure-kept, departure-fewer, kept-under}
-
--- a packet costs a class most at the least share
-charge-below : (w l most : ℕ) → T (allowed w) → l ≤ most → charge l w ≤ scale * most
-charge-below w l most ok small = go (decLe (charge l w) (scale * l))
-  where
-    go : Dec (charge l w ≤ scale * l) → charge l w ≤ scale * most
-    go (yes fits) = omega arith
-    go (no more) =
-        let close = charge-close w l ok in
-        let more-times = mul-le-mul-left {m = suc (scale * l)} {n = charge l w} w (omega arith) in
-        let apart = mul-suc w (scale * l) in
-        let once = mul-le-mul-right {m = 1} {n = w} (scale * l) (share-positive w ok) in
-        absurd (omega arith)
 
 -- ── one event, level by level ──
 
@@ -66,7 +52,8 @@ module _ (tree : Tree) (sound : Sound tree) (a b : Rows) (most m : ℕ) where
 
     headed-below : (p c s : ℕ) → Kid tree p c → s ≤ m → Headed tree b c s → KidBelow c
     headed-below p c s kid old headed =
-        let cost = charge-below (share tree c) (head-length b c) most (sound .share-allowed c (kid .positive) (kid .inside)) (small c (kid .inside)) in
+        let cost = charge-most (head-length b c) (share tree c) in
+        let short = small c (kid .inside) in
         (omega (arith, headed .starts), omega (arith, headed .ends))
 
     kids-below : (p c : ℕ) → Others tree a b p c → KidBelow c → KidsBelow p

@@ -1,8 +1,8 @@
 -- The worst-case fair index: how far a class falls behind its share from a moment at which its parent was about to choose up to the
 -- finish of a packet of its own, at every level of any tree.
 -- Assumes nothing.
-use Prim.Native.Nat.{ℕ, suc, _+_, _*_, _-_, _≤_, _<_}
-use mathlib.Core.Path.{_≡_, refl, sym, _∙_}
+use Prim.Native.Nat.{ℕ, suc, pred, _+_, _*_, _-_, _≤_, _<_}
+use mathlib.Core.Path.{_≡_, refl, sym, subst, _∙_}
 use mathlib.Core.Logic.{_≢_, _⊎_, inl, inr}
 use mathlib.Core.Bool.{Bool, true, false}
 use native.Mathlib.Nat.{mul-add, mul-sub, mul-left-comm, mul-le-mul-left}
@@ -13,22 +13,24 @@ use Rattle.input.specs.Classes.{Tree, parent, share}
 use Rattle.input.specs.Events.{Events, length-word}
 use Rattle.rules.specs.Box.{Box, Rows, start, virtual, head, head-length, bytes-of, held-by}
 use Rattle.rules.specs.Steps.{arrival, departure, after}
-use Rattle.rules.specs.Promise.{within}
+use Rattle.rules.specs.Promise.{within, packets-for, bytes-for, finished-in, holds, Backlogged}
 use Rattle.laws.specs.Sound.{Sound, Kid, Inner, Sender}
 use Rattle.laws.specs.Moves.{Still, ArrivalAt}
+use Rattle.laws.specs.Rounding.{rounding}
 use Rattle.laws.specs.Kept.{Kept, Ahead}
 use Rattle.laws.specs.History.{Accepted, largest-for, Keeps}
 use Rattle.rules.specs.Box.{line-class}
-use Rattle.laws.proofs.tree.Paths.{parent-is-inner, parent-within}
-use Rattle.laws.proofs.tree.Trees.{share-whole, share-rest, charge-exact}
+use Rattle.laws.proofs.tree.Paths.{its-parent, parent-is-inner, parent-within}
+use Rattle.laws.proofs.tree.Trees.{share-whole, share-rest, charge-rounded}
 use Rattle.laws.proofs.level.Modes.{not-root}
 use Rattle.laws.proofs.level.Levels.{arrival-ready, departure-ready}
 use Rattle.laws.proofs.event.Turns.{class-at, turn}
 use Rattle.laws.proofs.event.Largest.{parts-largest, accepted-wider}
 use Rattle.laws.proofs.event.OneEvent.{even, arrival-at, arrival-bytes, line-sender, line-length, departure-on, departure-off, bytes-on, bytes-off}
-use Rattle.laws.proofs.event.Keeping.{holds-none, kept}
+use Rattle.laws.proofs.event.Keeping.{holds-none, departure-held, kept}
+use Rattle.laws.proofs.run.History.{holds-held}
 use Rattle.laws.proofs.share.Pace.{came-top, left-top, finishes-late}
-use Rattle.laws.proofs.share.Stretch.{head-at, stretch}
+use Rattle.laws.proofs.share.Stretch.{head-at, finishes, finishes-on, stretch, bytes-in}
 
 -- p chose: its virtual time passes over the packet that it took, and its child k then starts not too far ahead of where that time was
 record Chose (tree : Tree) (big : ℕ → ℕ) (a b : Rows) (p k : ℕ) : Type 0 where
@@ -38,6 +40,7 @@ record Chose (tree : Tree) (big : ℕ → ℕ) (a b : Rows) (p k : ℕ) : Type 0
 -- row k's packet has finished, and it was its parent p's too
 record Ended (box next : Box) (p k : ℕ) : Type 0 where
   same-length : head-length (box .rows) p ≡ head-length (box .rows) k
+  one-fewer : held-by box k ≡ suc (held-by next k)
   kid-bytes : bytes-of next k ≡ bytes-of box k + head-length (box .rows) k
   parent-bytes : bytes-of next p ≡ bytes-of box p + head-length (box .rows) p
 
@@ -111,22 +114,24 @@ module _ (tree : Tree) (sound : Sound tree) (big : ℕ → ℕ) (wider : (j : �
               let line-k = line-length tree sound big now box well busy k (kid .inside) on in
               record {
                 same-length = line-p ∙ sym line-k;
+                one-fewer = rw on at (departure-held tree sound big wider now box well busy k (kid .inside));
                 kid-bytes = bytes-on tree sound big now box well busy k (kid .inside) on;
                 parent-bytes = bytes-on tree sound big now box well busy p (inner .inside) above;
               }
           go false off = let same = bytes-off tree sound big now box well busy k (kid .inside) off in absurd (omega arith)
 
-    -- where k has a head, p's virtual time is past k's finish by one packet at most; the finish is the start and the charge
+    -- where k has a head, p's virtual time is past k's finish by one packet at most; the finish is the start and the charge, with its rounding
     close :
         head (box .rows) k ≢ 0
         → share tree k * virtual (box .rows) p
         ≤ share tree k * start (box .rows) k + scale * head-length (box .rows) k + ticks * (share tree k * big p)
+        + share tree k * rounding (share tree k)
     close has =
         let w = share tree k in
         let a = box .rows in
         let near = finishes-late tree sound big wider now box well p k kid has in
         let tagged = well .settled .tagged k (kid .positive) (kid .inside) has in
-        let cost = charge-exact w (head-length a k) (sound .share-allowed k (kid .positive) (kid .inside)) in
+        let cost = charge-rounded w (head-length a k) (sound .share-allowed k (kid .positive) (kid .inside)) in
         let all : w * virtual a p ≤ w * (start a k + charge (head-length a k) w + ticks * big p) = mul-le-mul-left w (omega arith) in
         let apart = mul-add w (start a k + charge (head-length a k) w) (ticks * big p) in
         let tags = mul-add w (start a k) (charge (head-length a k) w) in
@@ -174,9 +179,11 @@ module _ (tree : Tree) (events : Events) (last : ℕ) (ok : Accepted tree events
       (p k i j : ℕ) → Kid tree p k → i < j → j < last → Keeps tree events k (suc i) j
       → (bytes-of (after tree events i) p < bytes-of (after tree events (suc i)) p) ⊎ (held-by (after tree events i) p ≡ 0)
       → bytes-of (after tree events j) k < bytes-of (after tree events (suc j)) k
-      → share tree k * ((bytes-of (after tree events (suc j)) p - bytes-of (after tree events (suc i)) p) + largest-for tree events k last)
-      ≤ share tree k * largest-for tree events p last
-      + whole * ((bytes-of (after tree events (suc j)) k - bytes-of (after tree events (suc i)) k) + largest-for tree events k last)
+      → ticks * (share tree k * ((bytes-of (after tree events (suc j)) p - bytes-of (after tree events (suc i)) p) + largest-for tree events k last))
+      ≤ ticks
+      * (share tree k * largest-for tree events p last
+      + whole * ((bytes-of (after tree events (suc j)) k - bytes-of (after tree events (suc i)) k) + largest-for tree events k last))
+      + share tree k * (rounding (share tree k) * suc (packets-for tree events k (finished-in events (after tree events last .order) (suc i) (suc j))))
   unfolding Ahead
   index p k i j kid before inside keeps due finished =
       let w = share tree k in
@@ -191,6 +198,10 @@ module _ (tree : Tree) (events : Events) (last : ℕ) (ok : Accepted tree events
       let pace = stretch tree events last ok p k (suc i) j kid before (omega arith) keeps in
       let second = ended p k j kid inside finished in
       let near = close tree sound big wider j (box j) (well j (omega arith)) p k kid has-second in
+      let one-more = finishes-on tree events last ok k (suc i) j (kid .inside) before inside in
+      let fewer = second .one-fewer in
+      let rounded =
+      mul-le-mul-left {m = suc (finishes tree events last ok k (suc i) j)} {n = finishes tree events last ok k (suc i) (suc j)} (w * rounding w) (omega arith) in
       let risen : v₀ + ticks * p₁ ≤ v₁ + ticks * p₀ = omega arith in
       let risen-share = mul-le-mul-left w risen in
       let left = mul-add w v₀ (ticks * p₁) in
@@ -202,3 +213,45 @@ module _ (tree : Tree) (events : Events) (last : ℕ) (ok : Accepted tree events
       let goal-parts = mul-add w (p₁ - p₀) own in
       let finished-parts = mul-sub w p₁ p₀ in
       omega arith
+
+  -- the same by the events and the order
+  pub counted-index :
+      (k i j : ℕ) → 0 < k → k < tree .rows → i < j → j < last → Backlogged tree events (after tree events last .order) k i j
+      → (0 < bytes-for tree events (parent tree k) (finished-in events (after tree events last .order) i (suc i)))
+      ⊎ (holds tree events (after tree events last .order) (parent tree k) i ≡ 0)
+      → 0 < bytes-for tree events k (finished-in events (after tree events last .order) j (suc j))
+      → ticks
+      * (share tree k
+      * (bytes-for tree events (parent tree k) (finished-in events (after tree events last .order) (suc i) (suc j)) + largest-for tree events k last))
+      ≤ ticks
+      * (share tree k * largest-for tree events (parent tree k) last
+      + whole * (bytes-for tree events k (finished-in events (after tree events last .order) (suc i) (suc j)) + largest-for tree events k last))
+      + share tree k * (rounding (share tree k) * suc (packets-for tree events k (finished-in events (after tree events last .order) (suc i) (suc j))))
+  unfolding Backlogged
+  counted-index k i j positive inside before within-all backlogged due finished =
+      let p = parent tree k in
+      let above = sound .parent-row k positive inside in
+      let all = bytes-in tree events last ok (suc i) (suc j) p (omega arith) within-all above in
+      let own = bytes-in tree events last ok (suc i) (suc j) k (omega arith) within-all inside in
+      let ends = bytes-in tree events last ok j (suc j) k (omega arith) within-all inside in
+      let all-is : bytes-of (box (suc j)) p - bytes-of (box (suc i)) p ≡ bytes-for tree events p (finished-in events (after tree events last .order) (suc i) (suc j)) = omega arith in
+      let own-is : bytes-of (box (suc j)) k - bytes-of (box (suc i)) k ≡ bytes-for tree events k (finished-in events (after tree events last .order) (suc i) (suc j)) = omega arith in
+      rw (all-is, own-is) at (index p k i j (its-parent tree sound k positive inside) before within-all keeps (must due) (omega arith))
+    where
+      keeps : Keeps tree events k (suc i) j
+      keeps n low high =
+          let is : suc (pred n) ≡ n = omega arith in
+          rw (holds-held tree events n last k (omega arith) ok inside) at
+          (subst (λ (x : ℕ). 0 < holds tree events (after tree events last .order) k x) is (backlogged (pred n) (omega arith) (omega arith)))
+
+      must :
+          (0 < bytes-for tree events (parent tree k) (finished-in events (after tree events last .order) i (suc i)))
+          ⊎ (holds tree events (after tree events last .order) (parent tree k) i ≡ 0)
+          → MustChoose (box i) (box (suc i)) (parent tree k)
+      must (inl more) =
+          let above = sound .parent-row k positive inside in
+          let grown = bytes-in tree events last ok i (suc i) (parent tree k) (omega arith) (omega arith) above in
+          inl (omega arith)
+      must (inr none) =
+          let above = sound .parent-row k positive inside in
+          inr (sym (holds-held tree events i last (parent tree k) (omega arith) ok above) ∙ none)

@@ -7,32 +7,34 @@ use mathlib.Core.Bool.{Bool, true, false, true≢false}
 use native.Mathlib.Decide.{ℕ-discrete}
 use native.Mathlib.Nat.{mul-add, mul-le-mul-left}
 use native.Mathlib.Omega.{arith}
-use Rattle.input.specs.Limits.{ticks, whole, scale}
+use Rattle.input.specs.Limits.{ticks, whole, scale, ticks-a-step}
 use Rattle.input.specs.Shares.{charge}
 use Rattle.input.specs.Classes.{Tree, parent, share}
-use Rattle.rules.specs.Box.{Box, Rows, start, finish, virtual, head, head-length, bytes-of}
+use Rattle.rules.specs.Box.{Box, Rows, start, finish, virtual, head, head-length, bytes-of, held-by}
 use Rattle.rules.specs.Steps.{arrival, departure}
 use Rattle.rules.specs.Promise.{within}
 use Rattle.laws.specs.Sound.{Sound, Kid, Inner, Sender}
 use Rattle.laws.specs.Moves.{Settled, Still, Pick, ArrivalAt}
 use Rattle.laws.specs.Moves.{Arriving, joins, opens, Departing, renews, passes-on, empties}
 use Rattle.laws.specs.Kept.{Kept, Taken, none as nobody, one as somebody, Balanced, Ahead}
+use Rattle.laws.specs.Rounding.{rounding}
 use Rattle.laws.specs.Pace.{OwnPace, WholePace, Paced}
 use Rattle.rules.specs.Box.{line-class}
 use Rattle.laws.proofs.path.Tests.{cond-least}
 use Rattle.laws.proofs.tree.Paths.{its-parent, parent-is-inner, parent-within, one-child}
-use Rattle.laws.proofs.tree.Trees.{charge-exact, share-whole, share-rest}
+use Rattle.laws.proofs.tree.Trees.{charge-rounded, share-whole, share-rest}
 use Rattle.laws.proofs.level.Levels.{not-behind}
 use Rattle.laws.proofs.event.OneEvent.{arrival-at, arrival-bytes, line-sender, departure-on, departure-off, departure-bytes, bytes-on, bytes-off}
-use Rattle.laws.proofs.event.Keeping.{holds-head, departure-kept}
+use Rattle.laws.proofs.event.Keeping.{holds-head, departure-held, departure-kept}
 
--- the line in numbers: a share w, a virtual time v, the bytes finished and taken x, a start s, a charge e, bytes b, each at the first and
--- at the second moment, and the largest packets below and above
+-- the line in numbers: a share w and its rounding g, a virtual time v, the bytes finished and taken x, a start s, a charge e, bytes b, each at
+-- the first and at the second moment, the packets n finished between them, and the largest packets below and above
 line-sum :
-    (w v v′ s s′ e x x′ b b′ below above : ℕ) → w ≤ whole → v + ticks * x′ ≤ v′ + ticks * x → v′ ≤ s′ + e + ticks * above → w * e ≤ scale * below
-    → w * s′ + scale * b ≡ w * s + scale * b′ → w * s ≤ w * v + ticks * ((whole - w) * below) → b ≤ b′
-    → w * (x′ + below) ≤ w * (x + above) + whole * ((b′ - b) + 2 * below)
-line-sum w v v′ s s′ e x x′ b b′ below above part top late charged own early grows =
+    (w g v v′ s s′ e x x′ b b′ n below above : ℕ) → w ≤ whole → v + ticks * x′ ≤ v′ + ticks * x → v′ ≤ s′ + e + ticks * above
+    → w * e ≤ scale * below + w * g → w * s′ + scale * b ≤ w * s + scale * b′ + w * (g * n)
+    → w * s ≤ w * v + ticks * ((whole - w) * below) + w * g → b ≤ b′
+    → ticks * (w * (x′ + below)) ≤ ticks * (w * (x + above) + whole * ((b′ - b) + 2 * below)) + w * (g * (n + ticks-a-step))
+line-sum w g v v′ s s′ e x x′ b b′ n below above part top late charged own early grows =
     let parts = share-rest w below part in
     let top-times = mul-le-mul-left w top in
     let late-times = mul-le-mul-left w late in
@@ -84,7 +86,7 @@ module _ (tree : Tree) (sound : Sound tree) (big : ℕ → ℕ) (wider : (j : �
                 bytes j,
                 came-start tree (box .rows) next (parent tree j) k j kid (holds-head tree sound big wider now box kept j inside holds)
                     (level (parent tree j) (parent-is-inner tree sound (parent tree j) j kid)),
-              );
+              ) (omega arith);
           top = λ p inner. let covers = came-top tree (box .rows) next p k (level p inner) in let same = bytes p in omega arith;
           grows = λ r inside. let same = bytes r in omega arith;
         }
@@ -130,18 +132,31 @@ module _ (tree : Tree) (sound : Sound tree) (big : ℕ → ℕ) (wider : (j : �
               at .1 .others j kid (λ same. true≢false (sym (at .1 .on-path) ∙ (rw same at off))) .start-same
           go false away = departure-off tree sound big now box kept busy p inner away .kids j kid .start-same
 
-      departure-own : (p j : ℕ) → Kid tree p j → head (box .rows) j ≢ 0 → head next j ≢ 0 → OwnPace tree box (departure tree box) j
+      -- one packet fewer is held by a row on the path
+      fewer-on : (j : ℕ) → j < tree .rows → within tree j (line-class box) ≡ true → held-by box j - held-by (departure tree box) j ≡ 1
+      fewer-on j inside on =
+          let one = rw on at (departure-held tree sound big wider now box kept busy j inside) in
+          omega arith
+
+      departure-own :
+          (p j : ℕ) → Kid tree p j → head (box .rows) j ≢ 0 → head next j ≢ 0
+          → OwnPace tree box (departure tree box) j (held-by box j - held-by (departure tree box) j)
       departure-own p j kid had has = go (within tree j (line-class box)) refl
         where
-          go : (b : Bool) → within tree j (line-class box) ≡ b → OwnPace tree box (departure tree box) j
+          go : (b : Bool) → within tree j (line-class box) ≡ b → OwnPace tree box (departure tree box) j (held-by box j - held-by (departure tree box) j)
           go true on =
               let length = head-length (box .rows) j in
               let cost = charge length (share tree j) in
-              rw (start-on p j kid on has, kept .settled .tagged j (kid .positive) (kid .inside) had, bytes-on tree sound big now box kept busy j (kid .inside) on)
+              rw (
+                fewer-on j (kid .inside) on,
+                start-on p j kid on has,
+                kept .settled .tagged j (kid .positive) (kid .inside) had,
+                bytes-on tree sound big now box kept busy j (kid .inside) on,
+              )
               (let total = mul-add (share tree j) (start (box .rows) j) cost in
-              let exact = charge-exact (share tree j) length (sound .share-allowed j (kid .positive) (kid .inside)) in
+              let rounded = charge-rounded (share tree j) length (sound .share-allowed j (kid .positive) (kid .inside)) in
               omega arith)
-          go false off = rw (start-off p j kid off, bytes-off tree sound big now box kept busy j (kid .inside) off)
+          go false off = rw (start-off p j kid off, bytes-off tree sound big now box kept busy j (kid .inside) off) (omega arith)
 
       departure-top : (p : ℕ) → Inner tree p → WholePace box (departure tree box) p
       departure-top p inner = go (within tree p (line-class box)) refl
@@ -186,7 +201,8 @@ module _ (tree : Tree) (sound : Sound tree) (big : ℕ → ℕ) (wider : (j : �
   -- a child with a head has started before the virtual time, or not long after it
   starts-early :
       (now : ℕ) (box : Box) → Kept tree big now box → (p j : ℕ) → Kid tree p j → head (box .rows) j ≢ 0
-      → share tree j * start (box .rows) j ≤ share tree j * virtual (box .rows) p + ticks * ((whole - share tree j) * big j)
+      → share tree j * start (box .rows) j
+      ≤ share tree j * virtual (box .rows) p + ticks * ((whole - share tree j) * big j) + share tree j * rounding (share tree j)
   unfolding Ahead
   starts-early now box kept p j kid has = go (ℕ-discrete j (taken .0))
     where
@@ -199,7 +215,10 @@ module _ (tree : Tree) (sound : Sound tree) (big : ℕ → ℕ) (wider : (j : �
       balanced : Balanced tree big (box .rows) p (taken .0)
       balanced = kept .levels p (taken .0) inner (taken .1)
 
-      go : Dec (j ≡ taken .0) → share tree j * start (box .rows) j ≤ share tree j * virtual (box .rows) p + ticks * ((whole - share tree j) * big j)
+      go :
+          Dec (j ≡ taken .0)
+          → share tree j * start (box .rows) j
+          ≤ share tree j * virtual (box .rows) p + ticks * ((whole - share tree j) * big j) + share tree j * rounding (share tree j)
       go (yes same) =
           let early : start (box .rows) j + ticks * head-length (box .rows) p ≤ virtual (box .rows) p = rw same (balanced .started (rw same at kid)) in
           let times = mul-le-mul-left {m = start (box .rows) j} {n = virtual (box .rows) p} (share tree j) (omega arith) in
@@ -215,22 +234,25 @@ module _ (tree : Tree) (sound : Sound tree) (big : ℕ → ℕ) (wider : (j : �
       let (t, taken) = taken-child (box .rows) (kept .settled) p inner in
       not-behind tree sound big wider (box .rows) p j t inner kid has taken (kept .levels p t inner taken)
 
-  -- between two moments at both of which row j, a child of p, holds a packet, with its own pace kept: what p finished, times j's share,
-  -- is at most what j finished, times the whole, and two largest packets of j's part, but for the largest packets and the heads at the ends
+  -- between two moments at both of which row j, a child of p, holds a packet, with its own pace kept and x packets finished: what p finished,
+  -- times j's share, is at most what j finished, times the whole, and two largest packets of j's part, but for the largest packets and the
+  -- heads at the ends, and the rounding of j's charges, counted in ticks
   pub line :
-      (one two : Box) (m n p j : ℕ) → Kept tree big m one → Kept tree big n two → Kid tree p j
+      (one two : Box) (m n p j x : ℕ) → Kept tree big m one → Kept tree big n two → Kid tree p j
       → head (one .rows) j ≢ 0 → head (two .rows) j ≢ 0
-      → OwnPace tree one two j → WholePace one two p → bytes-of one j ≤ bytes-of two j
-      → share tree j * (bytes-of two p + head-length (two .rows) p + big j)
-      ≤ share tree j * (bytes-of one p + head-length (one .rows) p + big p) + whole * ((bytes-of two j - bytes-of one j) + 2 * big j)
-  line one two m n p j kept-one kept-two kid has-one has-two own top grows =
+      → OwnPace tree one two j x → WholePace one two p → bytes-of one j ≤ bytes-of two j
+      → ticks * (share tree j * (bytes-of two p + head-length (two .rows) p + big j))
+      ≤ ticks
+      * (share tree j * (bytes-of one p + head-length (one .rows) p + big p) + whole * ((bytes-of two j - bytes-of one j) + 2 * big j))
+      + share tree j * (rounding (share tree j) * (x + ticks-a-step))
+  line one two m n p j x kept-one kept-two kid has-one has-two own top grows =
       let allowed = sound .share-allowed j (kid .positive) (kid .inside) in
       let late = finishes-late n two kept-two p j kid has-two in
       let ends = kept-two .settled .tagged j (kid .positive) (kid .inside) has-two in
       let small = kept-two .heads-small j (kid .inside) in
-      let exact = charge-exact (share tree j) (head-length (two .rows) j) allowed in
-      line-sum (share tree j) (virtual (one .rows) p) (virtual (two .rows) p) (start (one .rows) j) (start (two .rows) j)
+      let rounded = charge-rounded (share tree j) (head-length (two .rows) j) allowed in
+      line-sum (share tree j) (rounding (share tree j)) (virtual (one .rows) p) (virtual (two .rows) p) (start (one .rows) j) (start (two .rows) j)
       (charge (head-length (two .rows) j) (share tree j))
       (bytes-of one p + head-length (one .rows) p) (bytes-of two p + head-length (two .rows) p) (bytes-of one j) (bytes-of two j)
-      (big j) (big p)
+      x (big j) (big p)
       (share-whole (share tree j) allowed) top (omega arith) (omega arith) own (starts-early m one kept-one p j kid has-one) grows

@@ -10,14 +10,15 @@ use native.Mathlib.Omega.{arith}
 use lib.Dec.{ltb, eqb}
 use borrow.Author.Tests.{ltb-false, eq-eqb, ne-eqb}
 use lib.IntN.{ℤ, pos, _-ℤ_, pos-ne-negsuc}
-use Rattle.input.specs.Limits.{whole}
+use Rattle.input.specs.Limits.{ticks, whole}
 use Rattle.input.specs.Classes.{Tree, parent, depth, share}
 use Rattle.input.specs.Events.{Events}
 use Rattle.rules.specs.Box.{fresh, bytes-of, held-by}
 use Rattle.rules.specs.Steps.{after}
 use Rattle.rules.specs.Outcome.{lag}
-use Rattle.rules.specs.Promise.{bytes-for, finished-in, Backlogged, Ratio, whole-over, step-up, climbed, line-most, largest, Promised}
+use Rattle.rules.specs.Promise.{bytes-for, finished-in, Backlogged, Ratio, whole-over, step-up, plus-ticks, climbed, line-most, ticks-for, largest, Promised}
 use Rattle.laws.specs.Sound.{Kid}
+use Rattle.laws.specs.Rounding.{rounding, rounded-ticks}
 use Rattle.laws.specs.History.{Accepted, largest-for, Keeps, Since}
 use Rattle.laws.proofs.tree.Paths.{its-parent, at-root, below-root, parent-is-inner}
 use Rattle.laws.proofs.event.Largest.{part-largest, accepted-wider}
@@ -26,17 +27,19 @@ use Rattle.laws.proofs.event.Keeping.{busy-holds, kept}
 use Rattle.laws.proofs.run.History.{holds-held}
 use Rattle.laws.proofs.run.Sent.{line-counted}
 use Rattle.laws.proofs.share.Pace.{line}
-use Rattle.laws.proofs.share.Stretch.{head-at, stretch, marks-stay, wakes, bytes-in}
+use Rattle.laws.proofs.share.Stretch.{head-at, finishes-more, stretch, marks-stay, wakes, bytes-in}
 use Rattle.laws.proofs.share.TwoPackets.{two-packets}
 
 -- ── in numbers ──
 
--- up: a bound on a row's bytes, as a ratio, gives one on its parent's
+-- up: a bound on a row's bytes, as a ratio, gives one on its parent's, with at least the ticks t that rounding can cost
 climb-sum :
-    (w above own most denominator numerator : ℕ) → w * above ≤ whole * (own + 2 * most) → own * denominator ≤ numerator
-    → above * (denominator * w) ≤ (numerator + 2 * most * denominator) * whole
-climb-sum w above own most denominator numerator stepped below =
+    (w t more above own most denominator numerator : ℕ) → ticks * (w * above) ≤ ticks * (whole * (own + 2 * most)) + w * t → t ≤ more
+    → own * denominator ≤ numerator
+    → above * (denominator * w * ticks) ≤ (numerator + 2 * most * denominator) * whole * ticks + more * (denominator * w)
+climb-sum w t more above own most denominator numerator stepped enough below =
     let times = mul-le-mul-left denominator stepped in
+    let covered = mul-le-mul-left (denominator * w) enough in
     omega arith
 
 -- a lag above 0 is a difference of two numbers
@@ -68,14 +71,17 @@ module _ (tree : Tree) (events : Events) (last : ℕ) (ok : Accepted tree events
   -- one step up the tree, in its sharp form
   pub sharp :
       (p j m n : ℕ) → Kid tree p j → m ≤ n → n ≤ last → Keeps tree events j m n
-      → share tree j * (bytes-of (after tree events n) p + largest-for tree events j last)
-      ≤ share tree j * (bytes-of (after tree events m) p + 2 * largest-for tree events p last)
-      + whole * ((bytes-of (after tree events n) j - bytes-of (after tree events m) j) + 2 * largest-for tree events j last)
+      → ticks * (share tree j * (bytes-of (after tree events n) p + largest-for tree events j last))
+      ≤ ticks
+      * (share tree j * (bytes-of (after tree events m) p + 2 * largest-for tree events p last)
+      + whole * ((bytes-of (after tree events n) j - bytes-of (after tree events m) j) + 2 * largest-for tree events j last))
+      + share tree j * rounded-ticks tree events (finished-in events (after tree events last .order) m n) j
+  unfolding rounded-ticks ticks-for
   sharp p j m n kid order earlier keeps =
       let pace = stretch tree events last ok p j m n kid order earlier keeps in
       let first = kept tree events m last (omega arith) ok in
       let sure =
-      line tree (ok .sound) _ (accepted-wider tree events last ok) (after tree events m) (after tree events n) m n p j first
+      line tree (ok .sound) _ (accepted-wider tree events last ok) (after tree events m) (after tree events n) m n p j _ first
       (kept tree events n last earlier ok) kid (head-at tree events last ok m j (omega arith) (kid .inside) (keeps m (omega arith) order))
       (head-at tree events last ok n j earlier (kid .inside) (keeps n order (omega arith))) (pace .own) (pace .top) (pace .grows) in
       let inner = parent-is-inner tree (ok .sound) p j kid in
@@ -85,8 +91,9 @@ module _ (tree : Tree) (events : Events) (last : ℕ) (ok : Accepted tree events
   -- and in the form that the number has
   pub step :
       (p j m n : ℕ) → Kid tree p j → m ≤ n → n ≤ last → Keeps tree events j m n
-      → share tree j * (bytes-of (after tree events n) p - bytes-of (after tree events m) p)
-      ≤ whole * ((bytes-of (after tree events n) j - bytes-of (after tree events m) j) + 2 * largest events last)
+      → ticks * (share tree j * (bytes-of (after tree events n) p - bytes-of (after tree events m) p))
+      ≤ ticks * (whole * ((bytes-of (after tree events n) j - bytes-of (after tree events m) j) + 2 * largest events last))
+      + share tree j * rounded-ticks tree events (finished-in events (after tree events last .order) m n) j
   step p j m n kid order earlier keeps =
       let stepped = two-packets tree events last ok p j m n kid order earlier keeps in
       let most = part-largest tree events p last in
@@ -94,30 +101,34 @@ module _ (tree : Tree) (events : Events) (last : ℕ) (ok : Accepted tree events
 
   -- ── up the tree ──
 
+  -- ticks that are enough for the packets that each row finished between two moments
+  abbrev Enough : (ℕ → ℕ) → ℕ → ℕ → Type 0
+  Enough more m n = (r : ℕ) → rounded-ticks tree events (finished-in events (after tree events last .order) m n) r ≤ more r
+
   pub climb :
-      (d k m n : ℕ) (q : Ratio) → k < tree .rows → depth tree k ≡ d → m ≤ n → n ≤ last → Keeps tree events k m n
+      (more : ℕ → ℕ) (d k m n : ℕ) (q : Ratio) → k < tree .rows → depth tree k ≡ d → m ≤ n → n ≤ last → Keeps tree events k m n → Enough more m n
       → (bytes-of (after tree events n) k - bytes-of (after tree events m) k) * q .denominator ≤ q .numerator
-      → (bytes-of (after tree events n) 0 - bytes-of (after tree events m) 0) * climbed d tree 2 (largest events last) k q .denominator
-      ≤ climbed d tree 2 (largest events last) k q .numerator
-  unfolding climbed step-up
-  climb zero k m n q inside deep order earlier keeps below =
+      → (bytes-of (after tree events n) 0 - bytes-of (after tree events m) 0) * climbed d tree 2 (largest events last) more k q .denominator
+      ≤ climbed d tree 2 (largest events last) more k q .numerator
+  unfolding climbed step-up plus-ticks
+  climb more zero k m n q inside deep order earlier keeps enough below =
       rw (at-root tree (ok .sound) k inside deep) at below
-  climb (suc d) k m n q inside deep order earlier keeps below =
+  climb more (suc d) k m n q inside deep order earlier keeps enough below =
       let positive = below-root tree (ok .sound) k d deep in
       let deeper = ok .sound .deeper k positive inside in
       let kid = its-parent tree (ok .sound) k positive inside in
-      climb d (parent tree k) m n (step-up 2 (largest events last) (whole-over (share tree k)) q) (ok .sound .parent-row k positive inside) (omega arith) order earlier
-      (keeps-up k m n positive inside earlier keeps)
-      (climb-sum (share tree k) (bytes-of (after tree events n) (parent tree k) - bytes-of (after tree events m) (parent tree k))
+      climb more d (parent tree k) m n (plus-ticks (more k) (step-up 2 (largest events last) (whole-over (share tree k)) q)) (ok .sound .parent-row k positive inside)
+      (omega arith) order earlier (keeps-up k m n positive inside earlier keeps) enough
+      (climb-sum (share tree k) _ (more k) (bytes-of (after tree events n) (parent tree k) - bytes-of (after tree events m) (parent tree k))
       (bytes-of (after tree events n) k - bytes-of (after tree events m) k) (largest events last) (q .denominator) (q .numerator)
-      (step (parent tree k) k m n kid order earlier keeps) below)
+      (step (parent tree k) k m n kid order earlier keeps) (enough k) below)
 
   -- ── the promise ──
 
   -- where a stretch is counted from: a moment with the bytes of its beginning, from which on the row holds a packet
   begins :
       (r a b : ℕ) → r < tree .rows → a < b → b ≤ last → ((i : ℕ) → a ≤ i → i < b → 0 < held-by (after tree events (suc i)) r)
-      → (m : ℕ) × (m ≤ b) × Keeps tree events r m b × ((x : ℕ) → bytes-of (after tree events m) x ≡ bytes-of (after tree events a) x)
+      → (m : ℕ) × (m ≤ b) × (a ≤ m) × Keeps tree events r m b × ((x : ℕ) → bytes-of (after tree events m) x ≡ bytes-of (after tree events a) x)
   begins r a b inside order earlier holds = go (ℕ-discrete (held-by (after tree events a) r) 0)
     where
       later : Keeps tree events r (suc a) b
@@ -127,11 +138,11 @@ module _ (tree : Tree) (events : Events) (last : ℕ) (ok : Accepted tree events
 
       go :
           Dec (held-by (after tree events a) r ≡ 0)
-          → (m : ℕ) × (m ≤ b) × Keeps tree events r m b × ((x : ℕ) → bytes-of (after tree events m) x ≡ bytes-of (after tree events a) x)
+          → (m : ℕ) × (m ≤ b) × (a ≤ m) × Keeps tree events r m b × ((x : ℕ) → bytes-of (after tree events m) x ≡ bytes-of (after tree events a) x)
       go (yes empty) =
           let woken = wakes tree events last ok a r (omega arith) inside empty (holds a (omega arith) order) in
-          (suc a, order, later, woken .2)
-      go (no some) = (a, omega arith, at, λ x. refl)
+          (suc a, order, omega arith, later, woken .2)
+      go (no some) = (a, omega arith, omega arith, at, λ x. refl)
         where
           at : Keeps tree events r a b
           at i from to = pick (ℕ-discrete i a)
@@ -140,10 +151,17 @@ module _ (tree : Tree) (events : Events) (last : ℕ) (ok : Accepted tree events
               pick (yes first) = rw first (pos-of-ne-zero some)
               pick (no other) = later i (omega arith) to
 
+  -- ticks for what each row finished in a stretch are enough for what it finished in a part of it
+  enough-before : (a m b : ℕ) → a ≤ m → m ≤ b → Enough (rounded-ticks tree events (finished-in events (after tree events last .order) a b)) m b
+  unfolding rounded-ticks ticks-for
+  enough-before a m b early late r =
+      let fewer = finishes-more tree events last ok r a m b early late in
+      mul-le-mul-left (rounding (share tree r)) (omega arith)
+
   -- the promise to any row, the root too, of which it says nothing new: for a stretch after each event of which the row holds a packet
   pub promised :
       (k a b : ℕ) → k < tree .rows → a ≤ b → b ≤ last → Backlogged tree events (after tree events last .order) k a b
-      → Promised tree events (after tree events last .order) 2 (largest events last) k a b
+      → Promised tree events (after tree events last .order) 2 (largest events last) (rounded-ticks tree events) k a b
   unfolding Backlogged line-most
   promised k a b inside order earlier backlogged =
       rw (← line-counted tree events last ok a b)
@@ -155,8 +173,11 @@ module _ (tree : Tree) (events : Events) (last : ℕ) (ok : Accepted tree events
       all : ℕ
       all = bytes-for tree events 0 (finished-in events (after tree events last .order) a b)
 
+      more : ℕ → ℕ
+      more = rounded-ticks tree events (finished-in events (after tree events last .order) a b)
+
       bound : Ratio
-      bound = climbed (depth tree k) tree 2 (largest events last) k (record { numerator = own; denominator = 1 })
+      bound = climbed (depth tree k) tree 2 (largest events last) more k (record { numerator = own; denominator = 1 })
 
       go :
           Dec (a ≡ b) → bytes-of (after tree events b) k ≡ bytes-of (after tree events a) k + own
@@ -170,11 +191,12 @@ module _ (tree : Tree) (events : Events) (last : ℕ) (ok : Accepted tree events
           let from =
           begins k a b inside (omega arith) earlier
           (λ i low high. rw (holds-held tree events (suc i) last k (omega arith) ok inside) at (backlogged i low high)) in
-          let own-from = from .3 k in
-          let all-from = from .3 0 in
+          let own-from = from .4 k in
+          let all-from = from .4 0 in
           let is : bytes-of (after tree events b) 0 - bytes-of (after tree events (from .0)) 0 ≡ all = omega arith in
           subst (λ (x : ℕ). x * bound .denominator ≤ bound .numerator) is
-          (climb (depth tree k) k (from .0) b (record { numerator = own; denominator = 1 }) inside refl (from .1) earlier (from .2) (omega arith))
+          (climb more (depth tree k) k (from .0) b (record { numerator = own; denominator = 1 }) inside refl (from .1) earlier (from .3)
+          (enough-before a (from .0) b (from .2) (from .1)) (omega arith))
 
   -- ── lags ──
 
@@ -241,27 +263,22 @@ module _ (tree : Tree) (events : Events) (last : ℕ) (ok : Accepted tree events
       go true x = refl
       go false x = refl
 
-  pub lag-bound : (r n lagging : ℕ) → r < tree .rows → n ≤ last → lag tree (after tree events n) r ≡ pos lagging → lagging ≤ 2 * whole * largest events last
-  lag-bound r n lagging inside earlier is = go (ℕ-discrete r 0) (ℕ-discrete (held-by (after tree events n) r) 0)
-    where
-      nothing : (r ≡ 0) ⊎ (held-by (after tree events n) r ≡ 0) → lagging ≤ 2 * whole * largest events last
-      nothing quiet =
-          let zero-is = sym (no-lag r n quiet) ∙ is in
-          let none : 0 ≡ lagging = cc in
-          omega arith
-
-      go : Dec (r ≡ 0) → Dec (held-by (after tree events n) r ≡ 0) → lagging ≤ 2 * whole * largest events last
-      go (yes root) held = nothing (inl root)
-      go (no row) (yes empty) = nothing (inr empty)
-      go (no row) (no some) =
-          let since = backlog r n inside earlier (pos-of-ne-zero some) in
-          let m = since .from in
-          let kid = its-parent tree (ok .sound) r (pos-of-ne-zero row) inside in
-          let woken = wakes tree events last ok m r (omega arith) inside (since .empty) (since .keeps (suc m) (omega arith) (since .earlier)) in
-          let stepped =
-          rw (woken .2 (parent tree r), woken .2 r) at (step (parent tree r) r (suc m) n kid (since .earlier) earlier (since .keeps)) in
-          let all = bytes-of (after tree events n) (parent tree r) - bytes-of (after tree events m) (parent tree r) in
-          let own = bytes-of (after tree events n) r - bytes-of (after tree events m) r in
-          let difference = sym (lag-counted r n (pos-of-ne-zero row) (pos-of-ne-zero some) since) ∙ is in
-          let short = lag-less (share tree r * all) (whole * own) lagging difference in
-          omega arith
+  -- a row's lag above 0 is at most two largest packets and the rounding of the packets that it finished since its backlog began, in ticks
+  pub lag-bound :
+      (r n lagging : ℕ) → 0 < r → r < tree .rows → n ≤ last → 0 < held-by (after tree events n) r → (since : Since tree events r n)
+      → lag tree (after tree events n) r ≡ pos lagging
+      → ticks * lagging
+      ≤ ticks * (2 * whole * largest events last)
+      + share tree r * rounded-ticks tree events (finished-in events (after tree events last .order) (since .from) n) r
+  lag-bound r n lagging positive inside earlier holds since is =
+      let m = since .from in
+      let kid = its-parent tree (ok .sound) r positive inside in
+      let woken = wakes tree events last ok m r (omega arith) inside (since .empty) (since .keeps (suc m) (omega arith) (since .earlier)) in
+      let stepped =
+      rw (woken .2 (parent tree r), woken .2 r) at (step (parent tree r) r (suc m) n kid (since .earlier) earlier (since .keeps)) in
+      let covered = mul-le-mul-left (share tree r) (enough-before m (suc m) n (omega arith) (since .earlier) r) in
+      let all = bytes-of (after tree events n) (parent tree r) - bytes-of (after tree events m) (parent tree r) in
+      let own = bytes-of (after tree events n) r - bytes-of (after tree events m) r in
+      let difference = sym (lag-counted r n positive holds since) ∙ is in
+      let short = lag-less (share tree r * all) (whole * own) lagging difference in
+      omega arith

@@ -9,18 +9,20 @@ use native.Mathlib.Decide.{ℕ-discrete}
 use native.Mathlib.Omega.{arith}
 use lib.Dec.{T}
 use borrow.Author.Tests.{le-leb}
-use Rattle.input.specs.Limits.{ticks, whole, scale}
+use Rattle.input.specs.Limits.{ticks, whole, scale, ticks-a-step}
 use Rattle.input.specs.Shares.{allowed, charge}
 use Rattle.input.specs.Classes.{Tree, parent, share}
 use Rattle.input.specs.Events.{Events}
 use Rattle.rules.specs.Box.{Rows, Box, start, finish, virtual, head, head-length, bytes-of, held-by}
 use Rattle.rules.specs.Steps.{after}
+use Rattle.rules.specs.Promise.{packets-for, finished-in, ticks-for}
 use Rattle.laws.specs.Sound.{Sound, Kid, Inner}
+use Rattle.laws.specs.Rounding.{rounding, rounded-ticks}
 use Rattle.laws.specs.Level.{Mode, waits, demand, Behind}
 use Rattle.laws.specs.Kept.{Kept, Taken, none as nobody, one as somebody, Balanced, Ahead, weight, spare, mode}
 use Rattle.laws.specs.History.{Accepted, largest-for, Keeps}
 use Rattle.laws.proofs.tree.Paths.{parent-is-inner}
-use Rattle.laws.proofs.tree.Trees.{charge-exact, share-whole, share-rest}
+use Rattle.laws.proofs.tree.Trees.{charge-rounded, share-whole, share-rest}
 use Rattle.laws.proofs.level.Modes.{not-root, mode-waits, weight-kid}
 use Rattle.laws.proofs.event.Largest.{parts-largest, accepted-wider}
 use Rattle.laws.proofs.event.Holding.{sum-term}
@@ -28,23 +30,25 @@ use Rattle.laws.proofs.event.Keeping.{kept}
 use Rattle.laws.proofs.share.Pace.{taken-child, finishes-late}
 use Rattle.laws.proofs.share.Stretch.{head-at, stretch}
 
--- ── in numbers: a share w, a virtual time v, a start s, a charge e for a packet of length l, and the largest packet ──
+-- ── in numbers: a share w and its rounding g, a virtual time v, a start s, a charge e for a packet of length l, and the largest packet ──
 
 behind-waiting :
-    (w v s e l most : ℕ) → w ≤ whole → l ≤ most → w * e ≡ scale * l → whole * v + w * e ≤ whole * (s + e) + scale * most
-    → w * v ≤ w * s + scale * most
-behind-waiting w v s e l most part small cost behind =
+    (w g v s e l most : ℕ) → w ≤ whole → l ≤ most → w * e ≤ scale * l + w * g → whole * v + w * e ≤ whole * (s + e) + scale * most
+    → w * v ≤ w * s + scale * most + w * g
+behind-waiting w g v s e l most part small cost behind =
     let times = mul-le-mul-left w behind in
     let rest = mul-le-mul-left (whole - w) small in
-    let parts-own = share-rest w l part in
     let parts-most = share-rest w most part in
-    let cost-times : w * (w * e) ≡ w * (scale * l) = ap (λ (n : ℕ). w * n) cost in
+    let parts-cost = share-rest w (w * e) part in
+    let parts-rounding = share-rest w (w * g) part in
+    let cost-rest = mul-le-mul-left (whole - w) cost in
+    let split = mul-add (whole - w) (scale * l) (w * g) in
     omega arith
 
 behind-taken :
-    (w v s e l most : ℕ) → w ≤ whole → l ≤ most → w * e ≡ scale * l → v ≤ s + e + ticks * most
-    → w * v ≤ w * s + scale * most + ticks * (w * l)
-behind-taken w v s e l most part small cost behind =
+    (w g v s e l most : ℕ) → w ≤ whole → l ≤ most → w * e ≤ scale * l + w * g → v ≤ s + e + ticks * most
+    → w * v ≤ w * s + scale * most + ticks * (w * l) + w * g
+behind-taken w g v s e l most part small cost behind =
     let times = mul-le-mul-left w behind in
     let rest = mul-le-mul-left (whole - w) small in
     let parts-own = share-rest w l part in
@@ -53,20 +57,21 @@ behind-taken w v s e l most part small cost behind =
 
 -- h is the length of the parent's head
 ahead-waiting :
-    (w v s h own most : ℕ) → w ≤ whole → own ≤ most → h ≤ most → w * s ≤ w * v + ticks * ((whole - w) * own)
-    → w * s + ticks * (w * h) ≤ w * v + scale * most
-ahead-waiting w v s h own most part small low ahead =
+    (w g v s h own most : ℕ) → w ≤ whole → own ≤ most → h ≤ most → w * s ≤ w * v + ticks * ((whole - w) * own) + w * g
+    → w * s + ticks * (w * h) ≤ w * v + scale * most + w * g
+ahead-waiting w g v s h own most part small low ahead =
     let rest = mul-le-mul-left (whole - w) small in
     let heads = mul-le-mul-left w low in
     let parts-most = share-rest w most part in
     omega arith
 
--- with the parent's bytes x and the child's bytes b, each at the first and at the second moment
+-- with the parent's bytes x and the child's bytes b, each at the first and at the second moment, and the packets n that the child finished
 two-sum :
-    (w v v′ s s′ h h′ x x′ b b′ most : ℕ) → v + ticks * (x′ + h′) ≤ v′ + ticks * (x + h) → w * v′ ≤ w * s′ + scale * most + ticks * (w * h′)
-    → w * s + ticks * (w * h) ≤ w * v + scale * most → w * s′ + scale * b ≡ w * s + scale * b′ → b ≤ b′ → x ≤ x′
-    → w * (x′ - x) ≤ whole * ((b′ - b) + 2 * most)
-two-sum w v v′ s s′ h h′ x x′ b b′ most top behind ahead own grows parent-grows =
+    (w g v v′ s s′ h h′ x x′ b b′ n most : ℕ) → v + ticks * (x′ + h′) ≤ v′ + ticks * (x + h)
+    → w * v′ ≤ w * s′ + scale * most + ticks * (w * h′) + w * g → w * s + ticks * (w * h) ≤ w * v + scale * most + w * g
+    → w * s′ + scale * b ≤ w * s + scale * b′ + w * (g * n) → b ≤ b′ → x ≤ x′
+    → ticks * (w * (x′ - x)) ≤ ticks * (whole * ((b′ - b) + 2 * most)) + w * (g * (n + ticks-a-step))
+two-sum w g v v′ s s′ h h′ x x′ b b′ n most top behind ahead own grows parent-grows =
     let times = mul-le-mul-left w top in
     let bytes : w * (x + (x′ - x)) ≡ w * x′ = ap (λ (n : ℕ). w * n) (add-sub-of-le parent-grows) in
     let bytes-split = mul-add w x (x′ - x) in
@@ -88,8 +93,12 @@ waits-behind n w spare m v most j s f inside is behind =
 
 -- how far p's virtual time can be past the start of its child j, and that past it, with the packet that p has taken
 record Near (tree : Tree) (big : ℕ → ℕ) (a : Rows) (p j : ℕ) : Type 0 where
-  behind : share tree j * virtual a p ≤ share tree j * start a j + scale * big p + ticks * (share tree j * head-length a p)
-  ahead : share tree j * start a j + ticks * (share tree j * head-length a p) ≤ share tree j * virtual a p + scale * big p
+  behind :
+      share tree j * virtual a p
+      ≤ share tree j * start a j + scale * big p + ticks * (share tree j * head-length a p) + share tree j * rounding (share tree j)
+  ahead :
+      share tree j * start a j + ticks * (share tree j * head-length a p)
+      ≤ share tree j * virtual a p + scale * big p + share tree j * rounding (share tree j)
 
 module _ (tree : Tree) (sound : Sound tree) (big : ℕ → ℕ) (wider : (j : ℕ) → 0 < j → j < tree .rows → big j ≤ big (parent tree j)) where
   module _ (now : ℕ) (box : Box) (well : Kept tree big now box) (p j : ℕ) (kid : Kid tree p j) (has : head (box .rows) j ≢ 0) where
@@ -108,8 +117,8 @@ module _ (tree : Tree) (sound : Sound tree) (big : ℕ → ℕ) (wider : (j : �
     part : w ≤ whole
     part = share-whole w allows
 
-    cost : w * charge (head-length a j) w ≡ scale * head-length a j
-    cost = charge-exact w (head-length a j) allows
+    cost : w * charge (head-length a j) w ≤ scale * head-length a j + w * rounding w
+    cost = charge-rounded w (head-length a j) allows
 
     tag : finish a j ≡ start a j + charge (head-length a j) w
     tag = well .settled .tagged j (kid .positive) (kid .inside) has
@@ -124,11 +133,11 @@ module _ (tree : Tree) (sound : Sound tree) (big : ℕ → ℕ) (wider : (j : �
     unfolding Ahead
     waiting t other balanced =
         let late =
-        behind-waiting w (virtual a p) (start a j) (charge (head-length a j) w) (head-length a j) (big p) part small cost asks in
+        behind-waiting w (rounding w) (virtual a p) (start a j) (charge (head-length a j) w) (head-length a j) (big p) part small cost asks in
         record {
           behind = omega arith;
           ahead =
-              ahead-waiting w (virtual a p) (start a j) (head-length a p) (big j) (big p) part above (well .heads-small p (inner .inside))
+              ahead-waiting w (rounding w) (virtual a p) (start a j) (head-length a p) (big j) (big p) part above (well .heads-small p (inner .inside))
               (balanced .ahead-waiting j kid other has);
         }
       where
@@ -148,7 +157,7 @@ module _ (tree : Tree) (sound : Sound tree) (big : ℕ → ℕ) (wider : (j : �
     taken is =
         let near = finishes-late tree sound big wider now box well p j kid has in
         let late =
-        behind-taken w (virtual a p) (start a j) (charge (head-length a j) w) (head-length a j) (big p) part small cost (omega (arith, tag)) in
+        behind-taken w (rounding w) (virtual a p) (start a j) (charge (head-length a j) w) (head-length a j) (big p) part small cost (omega (arith, tag)) in
         let started = well .levels p j inner is .started kid in
         let times = mul-le-mul-left w started in
         let split = mul-add w (start a j) (ticks * head-length a p) in
@@ -176,16 +185,18 @@ module _ (tree : Tree) (events : Events) (last : ℕ) (ok : Accepted tree events
       (kept tree events i last earlier ok) p j kid (head-at tree events last ok i j earlier (kid .inside) holds)
 
   -- what p finishes while its child j holds a packet, times j's share, is at most what j finishes, times the whole, and two largest
-  -- packets of p's part
+  -- packets of p's part, and the rounding of j's charges; in ticks
   pub two-packets :
       (p j m n : ℕ) → Kid tree p j → m ≤ n → n ≤ last → Keeps tree events j m n
-      → share tree j * (bytes-of (after tree events n) p - bytes-of (after tree events m) p)
-      ≤ whole * ((bytes-of (after tree events n) j - bytes-of (after tree events m) j) + 2 * largest-for tree events p last)
+      → ticks * (share tree j * (bytes-of (after tree events n) p - bytes-of (after tree events m) p))
+      ≤ ticks * (whole * ((bytes-of (after tree events n) j - bytes-of (after tree events m) j) + 2 * largest-for tree events p last))
+      + share tree j * rounded-ticks tree events (finished-in events (after tree events last .order) m n) j
+  unfolding rounded-ticks ticks-for
   two-packets p j m n kid order earlier keeps =
       let pace = stretch tree events last ok p j m n kid order earlier keeps in
       let first = after tree events m in
       let second = after tree events n in
-      two-sum (share tree j) (virtual (first .rows) p) (virtual (second .rows) p) (start (first .rows) j) (start (second .rows) j)
+      two-sum (share tree j) (rounding (share tree j)) (virtual (first .rows) p) (virtual (second .rows) p) (start (first .rows) j) (start (second .rows) j)
       (head-length (first .rows) p) (head-length (second .rows) p) (bytes-of first p) (bytes-of second p) (bytes-of first j) (bytes-of second j)
-      (largest-for tree events p last) (pace .top) (near-at n p j earlier kid (keeps n order (omega arith)) .behind)
+      (packets-for tree events j (finished-in events (after tree events last .order) m n)) (largest-for tree events p last) (pace .top) (near-at n p j earlier kid (keeps n order (omega arith)) .behind)
       (near-at m p j (omega arith) kid (keeps m (omega arith) order) .ahead) (pace .own) (pace .grows) (pace .parent-grows)

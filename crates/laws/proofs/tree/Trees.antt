@@ -1,21 +1,21 @@
 -- A table and an event list that are not refused: what follows from that.
 -- Assumes nothing.
-use Prim.Native.Nat.{ℕ, zero, suc, _+_, _*_, _-_, _/_, _≤_, _<_}
+use Prim.Native.Nat.{ℕ, zero, suc, _+_, _*_, _-_, _%_, _≤_, _<_}
 use mathlib.Core.Path.{_≡_, refl, sym, _∙_, ap, subst}
 use mathlib.Core.Logic.{_≢_}
 use mathlib.Core.Bool.{Bool, true, false, cond, not, _||_}
 use mathlib.Core.List.{List, [], _∷_}
 use mathlib.Mathlib.Data.Bool.Basic.{or-eq-false-eq-eq-false-and-eq-false as or-is-false}
-use native.Mathlib.Nat.{div-add-mod, add-mul, add-sub-of-le, mul-left-comm, mul-comm}
+use native.Mathlib.Nat.{add-mul, add-sub-of-le, dvd-mul-right-of-dvd, mod-eq-zero-of-dvd, dvd-of-mod-eq-zero}
 use native.Mathlib.Decide.{ℕ-discrete}
 use native.Mathlib.Omega.{arith}
 use lib.Dec.{T, ltb, eqb}
 use lib.ListN.{length, getD, take, length-take, length-replicate}
-use borrow.Author.Tests.{ltb-false, eqb-true, eqb-false, ne-eqb, not-false}
+use borrow.Author.Tests.{ltb-false, eqb-true, eqb-false, eq-eqb, ne-eqb, not-false}
 use Rattle.input.specs.declared.Event.the-variants.{Arrival, Finish}
 use Rattle.input.specs.declared.Refusal.{Refusal}
 use Rattle.input.specs.Limits.{least-rows, most-rows, most-depth, least-bytes, most-bytes, whole, scale}
-use Rattle.input.specs.Shares.{allowed, cost, charge}
+use Rattle.input.specs.Shares.{allowed, charge}
 use Rattle.input.specs.Classes.{Table, place-of, earlier, parent-of, zeros, with-row, read, tree-of}
 use Rattle.input.specs.Classes.{Tree, parent, depth, share, row-of, sends, children-share}
 use Rattle.input.specs.Events.{Events, count}
@@ -24,8 +24,9 @@ use Rattle.input.specs.Refusals.{given, or-else, first, first-below, Room, rows
 use Rattle.input.specs.Refusals.{shares-refused, table-refused, packet-refused, meeting-refused}
 use Rattle.rules.specs.Refused.{idle, event-refused, refused}
 use Rattle.input.proofs.Filled.{filled-at}
-use Rattle.input.proofs.ShareTable.{allowed-parts}
+use Rattle.input.proofs.Charges.{allowed-parts, rounded-exact, rounded-covers, rounded-close}
 use Rattle.laws.specs.Sound.{Sound, ArrivalFits}
+use Rattle.laws.specs.Rounding.{rounding}
 use Rattle.laws.specs.History.{Accepted}
 use Rattle.laws.proofs.tree.Paths.{sends-sender}
 
@@ -38,22 +39,40 @@ share-positive w ok = allowed-parts w ok .0
 pub share-whole : (w : ℕ) → T (allowed w) → w ≤ whole
 share-whole w ok = allowed-parts w ok .1
 
-pub charge-exact : (w l : ℕ) → T (allowed w) → w * charge l w ≡ scale * l
-unfolding charge cost
-charge-exact w l ok =
-    let parts = div-add-mod scale w in
-    let none = allowed-parts w ok .2 in
-    let whole-parts : w * (scale / w) ≡ scale = omega arith in
-    mul-left-comm w l (scale / w) ∙ rw whole-parts (mul-comm l scale)
+module _ (w l : ℕ) (ok : T (allowed w)) where
+  pub charge-covers : scale * l ≤ w * charge l w
+  unfolding charge
+  charge-covers = rounded-covers (scale * l) w (share-positive w ok)
 
-pub charge-covers : (w l : ℕ) → T (allowed w) → scale * l ≤ w * charge l w
-charge-covers w l ok = let exact = charge-exact w l ok in omega arith
+  charge-close : w * charge l w < scale * l + w
+  unfolding charge
+  charge-close = rounded-close (scale * l) w (share-positive w ok)
 
-pub charge-close : (w l : ℕ) → T (allowed w) → w * charge l w < scale * l + w
-charge-close w l ok =
-    let exact = charge-exact w l ok in
-    let positive = share-positive w ok in
-    omega arith
+  -- by no tick where the share divides the scale
+  charge-exact : scale % w ≡ 0 → w * charge l w ≡ scale * l
+  unfolding charge
+  charge-exact none = rounded-exact (scale * l) w (share-positive w ok) (mod-eq-zero-of-dvd w (dvd-mul-right-of-dvd w (dvd-of-mod-eq-zero w none) l))
+
+  pub charge-rounded : w * charge l w ≤ scale * l + w * rounding w
+  unfolding rounding
+  charge-rounded = go (ℕ-discrete (scale % w) 0)
+    where
+      go : Dec (scale % w ≡ 0) → w * charge l w ≤ scale * l + w * cond (eqb (scale % w) 0) 0 1
+      go (yes none) = let exact = charge-exact none in rw (eq-eqb (scale % w) 0 none) (omega arith)
+      go (no left) = let close = charge-close in rw (ne-eqb (scale % w) 0 left) (omega arith)
+
+-- a tick at most, and none where the share divides the scale
+pub rounding-most : (w : ℕ) → rounding w ≤ 1
+unfolding rounding
+rounding-most w = cond-most (eqb (scale % w) 0)
+  where
+    cond-most : (b : Bool) → cond b 0 1 ≤ 1
+    cond-most true = omega arith
+    cond-most false = omega arith
+
+pub rounding-none : (w : ℕ) → scale % w ≡ 0 → rounding w ≡ 0
+unfolding rounding
+rounding-none w none = rw (eq-eqb (scale % w) 0 none)
 
 -- a share and what is left of the whole
 pub share-rest : (w x : ℕ) → w ≤ whole → w * x + (whole - w) * x ≡ whole * x

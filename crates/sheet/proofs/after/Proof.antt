@@ -11,12 +11,12 @@ use Rattle.sheet.proofs.after.Statement.{statement}
 use Rattle.sheet.proofs.after.Tie as tie
 
 abbrev Inv-loop : tie.InvT-loop
-Inv-loop steps parents shares row largest own figure₀ at₀ left₀ figure at left =
+Inv-loop steps parents shares row largest own more figure₀ at₀ left₀ figure at left =
     (figure .fits ≡ true → 0 < figure .denominator)
-    × (climbing left parents shares largest at figure ≡ worked steps parents shares largest row own)
+    × (climbing left parents shares largest more at figure ≡ worked steps parents shares largest more row own)
 
 abbrev μ-loop : tie.MeasureT-loop
-μ-loop steps parents shares row largest own figure₀ at₀ left₀ figure at left = left
+μ-loop steps parents shares row largest own more figure₀ at₀ left₀ figure at left = left
 
 loop-holds : tie.Need-loop-holds Inv-loop μ-loop
 unfolding worked
@@ -42,7 +42,7 @@ unfolding climbing
 loop-again c =
     let at = c .before .before .before .before .loop in
     let one : at .left ≡ suc (at .left - 1) = omega arith in (
-      rw (c .before .step .ensures) (step-some _ _ _ (at .inv .0)),
+      rw (c .before .step .ensures) (step-some _ _ _ _ (at .inv .0)),
       rw (c .word2 .ensures, c .before .step .ensures, c .before .before .word .ensures) (rw one at (at .inv .1)),
     )
 

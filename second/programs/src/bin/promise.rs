@@ -1,4 +1,4 @@
-//! The program `promise TABLE LARGEST [OWN]`.
+//! The program `promise TABLE LARGEST [OWN [PACKETS]]`.
 #![forbid(unsafe_code)]
 
 use std::process::ExitCode;

@@ -11,6 +11,9 @@ enum-told c = search needs
 enum-known-own : tie.Need-enum-known-own
 enum-known-own c = search needs
 
+from-packets-requires : tie.Need-from-packets-requires
+from-packets-requires c κs = search needs
+
 enum-told-2 : tie.Need-enum-told-2
 enum-told-2 c = search needs
 
@@ -23,7 +26,7 @@ returns c = rw (c .enum-told .given .1)
 
 returns-2 : tie.Need-returns-2
 unfolding own-asked
-returns-2 c = rw (c .before .own .given .1)
+returns-2 c = rw (c .before .before .own .given .1) (c .from-packets .ensures)
 
 returns-3 : tie.Need-returns-3
 unfolding own-asked
@@ -39,6 +42,7 @@ from-own-spec =
     (tie.spec
     enum-told
     enum-known-own
+    from-packets-requires
     enum-told-2
     enum-told-3
     returns

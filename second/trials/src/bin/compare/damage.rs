@@ -2,8 +2,8 @@
 
 use second::{MOST_BYTES, MOST_DEPTH, MOST_EVENTS, MOST_IDENTIFIER, MOST_ROWS, WHOLE};
 use trials::{
-    allowed_shares, fresh_identifier, greatest_share, same_on_air, sending, unknown_identifier,
-    Case, Event, Random, Row, FINISH,
+    any_share, fresh_identifier, same_on_air, sending, unknown_identifier, Case, Event, Random,
+    Row, FINISH,
 };
 
 /// Rows that a table has at most before further ones are put in.
@@ -57,7 +57,7 @@ fn random_row(case: &Case, parent: u32, random: &mut Random) -> Row {
     Row {
         identifier: fresh_identifier(&case.rows, random),
         parent,
-        share: random.pick(&allowed_shares()),
+        share: any_share(random),
     }
 }
 
@@ -135,28 +135,18 @@ fn parent(case: &mut Case, place: usize, random: &mut Random) {
     };
 }
 
-/// Beside those below the whole: what else divides 705,600, and numbers that are an allowed
-/// share in their low bits.
-const NEAR_AND_FAR: [u32; 9] = [
-    0,
-    WHOLE + 1,
-    882,
-    2 * WHOLE,
-    WHOLE + (1 << 10),
-    WHOLE + (1 << 16),
-    WHOLE * WHOLE,
-    1 + (1 << 31),
-    u32::MAX,
-];
+/// Past the whole, one that divides 705,600, and some far beyond.
+const NEAR_AND_FAR: [u32; 6] = [WHOLE + 2, 882, 1023, 2 * WHOLE, WHOLE * WHOLE, u32::MAX];
 
 fn share(case: &mut Case, place: usize, random: &mut Random) {
     let row = class_row(case, place);
-    let allowed = allowed_shares();
-    let others: Vec<u32> = (0..=WHOLE).filter(|s| !allowed.contains(s)).collect();
-    case.rows[row].share = match random.below(4) {
-        0 => random.pick(&NEAR_AND_FAR),
-        1 => random.between(WHOLE as usize + 1, u32::MAX as usize) as u32,
-        _ => random.pick(&others),
+    case.rows[row].share = match random.below(6) {
+        0 | 1 => 0,
+        2 => WHOLE + 1,
+        3 => random.pick(&NEAR_AND_FAR),
+        4 => random.between(WHOLE as usize + 1, u32::MAX as usize) as u32,
+        // In its low bits it is allowed.
+        _ => any_share(random) | 1 << random.between(10, 31),
     };
 }
 
@@ -192,7 +182,7 @@ fn over_whole(case: &mut Case, place: usize, random: &mut Random) {
     let mut wanted = WHOLE + 1 - given + (random.below(2) * random.below(500)) as u32;
     while wanted > 0 {
         let mut row = random_row(case, parent, random);
-        row.share = greatest_share(wanted);
+        row.share = wanted.min(WHOLE);
         wanted -= row.share;
         case.rows.push(row);
     }

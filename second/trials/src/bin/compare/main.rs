@@ -1,6 +1,7 @@
 //! The program `compare PROVED SECOND [SEED [LISTS]]`: two folders' programs over the same files.
 #![forbid(unsafe_code)]
 
+mod charged;
 mod damage;
 mod edges;
 mod faults;

@@ -5,13 +5,14 @@ use std::mem::discriminant;
 use crate::damage::{damage, damage_twice};
 use crate::faults::{put_in, Fault, FAULTS};
 use crate::sheets::{sheet_files, Manner};
-use second::MOST_EVENTS;
-use trials::{allowed_shares, random_events, random_table, Case, Files, Random, Shape};
+use second::{MOST_DEPTH, MOST_EVENTS, WHOLE};
+use trials::{random_events, random_table, rounding_case, Case, Files, Random, Shape};
 
 #[derive(Clone, Copy, Debug)]
 enum Kind {
     Accepted(Shape),
     NoEvents,
+    Rounding,
     Refused(u32),
     TwiceDamaged,
     Faulty,
@@ -20,20 +21,20 @@ enum Kind {
     FaultySheet,
 }
 
-use Kind::{Accepted, Faulty, FaultySheet, NoEvents, Refused, Sheet, TwiceDamaged};
+use Kind::{Accepted, Faulty, FaultySheet, NoEvents, Refused, Rounding, Sheet, TwiceDamaged};
 
 const ROUND: [Kind; 52] = [
     Accepted(Shape::Flat),
-    Accepted(Shape::Flat),
-    Accepted(Shape::Chain),
     Accepted(Shape::Chain),
     Accepted(Shape::Deep),
     Accepted(Shape::Deep),
     Accepted(Shape::Wide),
-    Accepted(Shape::Wide),
     Accepted(Shape::Any),
     Accepted(Shape::Any),
-    Accepted(Shape::Any),
+    Rounding,
+    Rounding,
+    Rounding,
+    Rounding,
     Accepted(Shape::Even),
     Accepted(Shape::Even),
     Accepted(Shape::Groups),
@@ -129,17 +130,32 @@ fn run(kind: Kind, number: usize, mut random: Random) -> Trial {
     Trial { name, files, case }
 }
 
-/// The faults take turns, one after another where lists with faults follow each other.
-fn fault_in_turn(number: usize) -> Fault {
+/// Counts on from one list of a kind to the next, where those of a round follow each other.
+fn turn(number: usize) -> usize {
     let kind = discriminant(&ROUND[number % ROUND.len()]);
     let alike = ROUND.iter().filter(|k| discriminant(*k) == kind).count();
-    let turn = number / ROUND.len() * alike + number % ROUND.len();
-    FAULTS[turn % FAULTS.len()]
+    number / ROUND.len() * alike + number % ROUND.len()
+}
+
+fn fault_in_turn(number: usize) -> Fault {
+    FAULTS[turn(number) % FAULTS.len()]
+}
+
+/// Classes above those of a list on rounding; every other such list has them.
+const ABOVE: usize = MOST_DEPTH - 1;
+
+/// In a default run there are just enough such lists for each share to be above once.
+fn rounding(number: usize, random: &mut Random) -> Case {
+    let turn = turn(number);
+    let share = |place| 1 + (turn / 2 * ABOVE + place) as u32 % WHOLE;
+    let above: Vec<u32> = (0..turn % 2 * ABOVE).map(share).collect();
+    rounding_case(&above, random)
 }
 
 /// The table and the list before any damage.
 fn accepted_case(kind: Kind, number: usize, random: &mut Random) -> Case {
     let shape = match kind {
+        Rounding => return rounding(number, random),
         Accepted(shape) => shape,
         Kind::FullSize => Shape::Full,
         _ => random.pick(&[Shape::Flat, Shape::Deep, Shape::Wide, Shape::Any]),
@@ -152,8 +168,7 @@ fn accepted_case(kind: Kind, number: usize, random: &mut Random) -> Case {
         _ => random.below(60),
     };
     let drains = !matches!(kind, Kind::FullSize) && random.one_in(2);
-    let shares = allowed_shares();
-    let rows = random_table(shape, shares[number % shares.len()], random);
+    let rows = random_table(shape, 1 + number as u32 % WHOLE, random);
     let events = random_events(&rows, most, drains, random);
     Case { rows, events }
 }
@@ -163,6 +178,7 @@ mod tests {
     use std::collections::BTreeSet;
 
     use super::*;
+    use crate::charged::Charged;
     use crate::{DEFAULT_LISTS, DEFAULT_SEED};
     use second::MOST_IDENTIFIER;
 
@@ -170,7 +186,8 @@ mod tests {
         let case = |number| {
             let kind = ROUND[number % ROUND.len()];
             let mut random = Random::new(DEFAULT_SEED, number as u64);
-            matches!(kind, Accepted(_) | NoEvents).then(|| accepted_case(kind, number, &mut random))
+            matches!(kind, Accepted(_) | NoEvents | Rounding)
+                .then(|| accepted_case(kind, number, &mut random))
         };
         (0..DEFAULT_LISTS).filter_map(case).collect()
     }
@@ -187,12 +204,25 @@ mod tests {
         let cases = accepted_cases();
         let rows = || cases.iter().flat_map(|case| &case.rows);
         let shares: BTreeSet<u32> = rows().map(|row| row.share).collect();
-        // Besides the 95, the root's 0.
-        assert_eq!(shares.len(), 96);
+        // Besides those of classes, the root's 0.
+        assert_eq!(shares, (0..=WHOLE).collect());
         assert!(rows().any(|row| row.identifier == MOST_IDENTIFIER));
         assert!(cases.iter().any(|case| case.rows.len() == 2));
         assert!(cases.iter().any(|case| case.rows.len() == 256));
         assert!(cases.iter().any(|case| case.events.is_empty()));
+    }
+
+    #[test]
+    fn lists_on_rounding_charge_every_share_whatever_the_seed() {
+        let is_rounding = |number: &usize| matches!(ROUND[number % ROUND.len()], Rounding);
+        for seed in [0, 1, DEFAULT_SEED] {
+            let mut charged = Charged::default();
+            for number in (0..DEFAULT_LISTS).filter(is_rounding) {
+                let mut random = Random::new(seed, number as u64);
+                charged.add_accepted(&accepted_case(Rounding, number, &mut random));
+            }
+            assert_eq!(charged.shortages(), Vec::<String>::new());
+        }
     }
 
     #[test]

@@ -6,7 +6,7 @@ use std::os::unix::ffi::OsStrExt;
 use crate::damage::damage;
 use crate::faults::{put_in, Fault, NOT_DIGITS, TOO_LARGE};
 use second::{MOST_BYTES, MOST_EVENTS};
-use trials::{allowed_shares, random_table, Case, Files, Random, Row, Shape, EDGES, SHAPES};
+use trials::{any_share, random_table, Case, Files, Random, Row, Shape, EDGES, SHAPES};
 
 #[derive(Clone, Copy, Debug, PartialEq, Eq)]
 pub enum Manner {
@@ -25,12 +25,12 @@ pub enum Manner {
 /// All refusals of a table.
 const REFUSALS: [u32; 9] = [1, 4, 5, 6, 7, 8, 9, 10, 15];
 
-/// Shares that do not divide 840, so that figures become fractions.
+/// Shares that divide 705,600 but not 840, so that figures become fractions.
 const AWKWARD: [u32; 8] = [9, 25, 49, 64, 441, 576, 784, 800];
 
 pub fn sheet_files(manner: Manner, random: &mut Random) -> Files {
     let mut case = Case {
-        rows: random_table(random.pick(&SHAPES), random.pick(&allowed_shares()), random),
+        rows: random_table(random.pick(&SHAPES), any_share(random), random),
         events: Vec::new(),
     };
     let mut arguments = vec![largest(random)];
@@ -38,6 +38,7 @@ pub fn sheet_files(manner: Manner, random: &mut Random) -> Files {
         Manner::Steep => {
             case.rows = steep_table(random);
             arguments.push(zeroed(random.word().to_string(), random));
+            arguments.extend(random.one_in(2).then(|| packets(random)));
         }
         Manner::Refused => {
             let place = random.below(MOST_EVENTS);
@@ -45,7 +46,10 @@ pub fn sheet_files(manner: Manner, random: &mut Random) -> Files {
         }
         Manner::Arguments => arguments = unread_arguments(random),
         _ if random.one_in(3) => {}
-        _ => arguments.push(own(random)),
+        _ => {
+            arguments.push(own(random));
+            arguments.extend(random.one_in(2).then(|| packets(random)));
+        }
     }
     let mut files = Files {
         events: None,
@@ -62,12 +66,13 @@ pub fn sheet_files(manner: Manner, random: &mut Random) -> Files {
 /// A chain; no share grows, so the table is still accepted.
 fn steep_table(random: &mut Random) -> Vec<Row> {
     let mut rows = random_table(Shape::Chain, 840, random);
-    let awkward = random.one_in(2);
+    let manner = random.below(3);
     for row in &mut rows[1..] {
         let fits: Vec<u32> = AWKWARD.into_iter().filter(|s| *s <= row.share).collect();
-        row.share = match awkward && !fits.is_empty() {
-            true => random.pick(&fits),
-            false => random.between(1, 8).min(row.share as usize) as u32,
+        row.share = match manner {
+            0 => random.between(1, row.share as usize) as u32,
+            1 if !fits.is_empty() => random.pick(&fits),
+            _ => random.between(1, 8).min(row.share as usize) as u32,
         };
     }
     rows
@@ -84,6 +89,16 @@ fn own(random: &mut Random) -> OsString {
     zeroed(random.pick(&[0, 6000, u32::MAX, any]).to_string(), random)
 }
 
+/// With 838 the ticks are a byte.
+fn packets(random: &mut Random) -> OsString {
+    let any = random.word() >> random.below(32);
+    let most = MOST_EVENTS as u32;
+    zeroed(
+        random.pick(&[0, 838, most, u32::MAX, any, any]).to_string(),
+        random,
+    )
+}
+
 /// Now and then with leading zeros.
 fn zeroed(number: String, random: &mut Random) -> OsString {
     let zeros = match random.one_in(8) {
@@ -97,19 +112,23 @@ fn unread_arguments(random: &mut Random) -> Vec<OsString> {
     // No argument holds a byte 0.
     let unread: Vec<&[u8]> = NOT_DIGITS.into_iter().chain(TOO_LARGE).collect();
     let unread: Vec<&[u8]> = unread.into_iter().filter(|a| !a.contains(&0)).collect();
-    let wrong = OsStr::from_bytes(random.pick(&unread)).to_os_string();
+    let mut wrong = || OsStr::from_bytes(random.pick(&unread)).to_os_string();
+    let [wrong, other, third] = [wrong(), wrong(), wrong()];
     let one_more = (MOST_BYTES + 1).to_string();
     // In 16 bits 65,537 would be 1.
     let range = random.pick(&["0", &one_more, &one_more, "65537", "4294967295"]);
     let range = OsString::from(range);
-    match random.below(7) {
+    match random.below(10) {
         0 => Vec::new(),
-        1 => vec![largest(random), own(random), own(random)],
+        1 => vec![largest(random), own(random), packets(random), own(random)],
         2 => vec![wrong],
         3 => vec![range],
         4 => vec![random.pick(&[&wrong, &range]).clone(), own(random)],
         5 => vec![range, wrong],
-        _ => vec![largest(random), wrong],
+        6 => vec![random.pick(&[&range, &third]).clone(), wrong, other],
+        7 => vec![largest(random), wrong],
+        8 => vec![largest(random), wrong, other],
+        _ => vec![largest(random), own(random), wrong],
     }
 }
 
@@ -145,11 +164,49 @@ mod tests {
         assert_eq!(begin(&answers(Manner::Plain), "own bytes "), 300);
         let steep = answers(Manner::Steep);
         assert_eq!(begin(&steep, "own bytes "), 300);
-        let with = |what: &str| {
-            let text = |a: &&Response| String::from_utf8_lossy(&a.output).contains(what);
-            steep.iter().filter(text).count()
+        assert!(with(&steep, "outgrown") > 100 && with(&steep, "rounded up") > 20);
+    }
+
+    /// How many of these answers have this in them.
+    fn with(answers: &[Response], what: &str) -> usize {
+        let has = |a: &&Response| String::from_utf8_lossy(&a.output).contains(what);
+        answers.iter().filter(has).count()
+    }
+
+    #[test]
+    fn a_number_without_ticks_is_there_or_not_below_a_figure_and_where_that_is_outgrown() {
+        let answers = [Manner::Plain, Manner::Steep].map(answers);
+        let texts = answers
+            .iter()
+            .flatten()
+            .map(|a| String::from_utf8_lossy(&a.output));
+        let (mut seen, mut fractions) = ([[0; 2]; 2], 0);
+        for text in texts {
+            for part in text.split("\n\n").skip(1) {
+                let outgrown = part.contains("\n  the line: no number, ");
+                let last = part.split_once("\n  without ticks, since each share above divides ");
+                seen[usize::from(outgrown)][usize::from(last.is_some())] += 1;
+                fractions += usize::from(last.is_some_and(|(_, l)| l.contains(", rounded up ")));
+            }
+        }
+        assert!(seen.concat().iter().all(|count| *count > 20), "{seen:?}");
+        assert!(fractions > 100);
+    }
+
+    #[test]
+    fn packets_are_given_or_not() {
+        let plain = answers(Manner::Plain);
+        for packets in [0, 838, 65_536, u32::MAX] {
+            let ticks = u64::from(packets) + 2;
+            let named = format!(", packets finished {packets}, ticks {ticks}\n");
+            assert!(with(&plain, &named) > 5, "{packets}");
+        }
+        let given = |number: &u64| {
+            let files = sheet_files(Manner::Plain, &mut Random::new(6, *number));
+            files.sheet.is_some_and(|rest| rest.len() == 3)
         };
-        assert!(with("outgrown") > 100 && with("rounded up") > 20);
+        let count = (0..300).filter(given).count();
+        assert!((50..250).contains(&count));
     }
 
     #[test]
@@ -157,8 +214,7 @@ mod tests {
         let plain = answers(Manner::Plain);
         for edge in EDGES {
             let named = format!(", largest packet {edge}, ");
-            let names = |a: &&Response| String::from_utf8_lossy(&a.output).contains(&named);
-            assert!(plain.iter().filter(names).count() > 20, "{edge}");
+            assert!(with(&plain, &named) > 20, "{edge}");
         }
     }
 
@@ -177,7 +233,8 @@ mod tests {
         let wrong = answers(Manner::Arguments);
         assert_eq!(begin(&wrong, "cannot read"), 300);
         let said: BTreeSet<_> = wrong.iter().map(|answer| &answer.output).collect();
-        assert_eq!(said.len(), 5);
+        // Two on LARGEST, OWN and PACKETS each, and that on how many arguments there are.
+        assert_eq!(said.len(), 7);
     }
 
     #[test]

@@ -1,5 +1,6 @@
 //! Counts what came of the lists.
 
+use crate::charged::Charged;
 use crate::edges::Edges;
 use crate::identifiers::Identifiers;
 use second::Choices;
@@ -23,6 +24,7 @@ pub struct Tally {
     choices: Choices,
     edges: Edges,
     identifiers: Identifiers,
+    charged: Charged,
     /// The lists on which the programs differ.
     pub differing: Vec<usize>,
 }
@@ -42,6 +44,7 @@ impl Tally {
                 self.choices += inside.choices;
                 self.edges.add_accepted(case);
                 self.identifiers.add_accepted(case);
+                self.charged.add_accepted(case);
             }
             Err(refusal) => {
                 self.edges.add_refused(case, refusal);
@@ -57,6 +60,7 @@ impl Tally {
         self.choices += other.choices;
         self.edges += other.edges;
         self.identifiers += other.identifiers;
+        self.charged += other.charged;
         self.differing.extend(other.differing);
     }
 
@@ -64,7 +68,7 @@ impl Tally {
         self.counts.iter().sum()
     }
 
-    /// A line for each answer, one for the choices, one for the lengths and one for identifiers.
+    /// A line for each answer, and one each for choices, lengths, identifiers and shares.
     pub fn text(&self) -> String {
         let line = |(answer, count): (usize, &u64)| format!("{}: {count}\n", answer_name(answer));
         let answers: String = self.counts.iter().enumerate().map(line).collect();
@@ -75,9 +79,10 @@ impl Tally {
         } = self.choices;
         format!(
             "{answers}choices: {made}, decided by the place: {by_place}, \
-             of these not the lowest row: {not_lowest}\n{}{}",
+             of these not the lowest row: {not_lowest}\n{}{}{}",
             self.edges.text(),
-            self.identifiers.text()
+            self.identifiers.text(),
+            self.charged.text()
         )
     }
 
@@ -109,6 +114,7 @@ impl Tally {
             .chain(choices)
             .chain(self.edges.shortages())
             .chain(self.identifiers.shortages())
+            .chain(self.charged.shortages())
             .collect()
     }
 }
@@ -131,7 +137,12 @@ mod tests {
         for answer in (0..ANSWERS).filter(|answer| *answer != NEVER) {
             tally.counts[answer] = WANTED;
         }
-        let others = [tally.edges.shortages(), tally.identifiers.shortages()].concat();
+        let others = [
+            tally.edges.shortages(),
+            tally.identifiers.shortages(),
+            tally.charged.shortages(),
+        ]
+        .concat();
         assert_eq!(tally.shortages().len(), 2 + others.len());
         tally.choices.by_place = WANTED_BY_PLACE;
         tally.choices.not_lowest = WANTED_NOT_LOWEST;
@@ -162,6 +173,6 @@ mod tests {
         assert!(text.contains("choices: 2, "));
         assert!(text.contains("packets: 2, of length 1: 1, "));
         assert!(text.contains("refused for length 9001: 1\n"));
-        assert!(text.ends_with("a class with a row's low bits: 0\n"));
+        assert!(text.ends_with("a class with a row's low bits: 0\nshares charged: 1 of 840\n"));
     }
 }

@@ -5,9 +5,10 @@ use trials::{lines, Random};
 /// Bytes that such files are made of, and some that they are not.
 const COMMON: &[u8] = b"0123456789012345678901234567890123456789,,,,,,\n\n\n\r \t-+x\0\xff";
 
-const NUMBERS: [&str; 18] = [
+const NUMBERS: [&str; 19] = [
     "0",
     "1",
+    "756",
     "840",
     "841",
     "2048",

@@ -17,12 +17,14 @@ use trials::{answer_name, counted, difference, folders, Bench, Files, Folder, Ra
 
 const DEFAULT_SEED: u64 = 1;
 
-/// Where LARGEST and OWN begin before they are damaged.
-const SHEETS: [&[&[u8]]; 6] = [
+/// Where LARGEST, OWN and PACKETS begin before they are damaged.
+const SHEETS: [&[&[u8]]; 8] = [
     &[b"1500"],
     &[b"1500", b"6000"],
     &[b"9000", b"4294967295"],
-    &[b"1", b"0"],
+    &[b"1500", b"6000", b"40"],
+    &[b"9000", b"4294967295", b"65536"],
+    &[b"1", b"0", b"0"],
     &[b"2049"],
     &[b"9001"],
 ];

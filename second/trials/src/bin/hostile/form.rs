@@ -56,7 +56,8 @@ fn is_sheet(body: &str) -> bool {
     let mut parts = body.split("\n\n");
     let first = parts.next().unwrap_or("");
     let is_class = |part: &str| {
-        let lines: Vec<&str> = part.split('\n').collect();
+        let mut lines: Vec<&str> = part.split('\n').collect();
+        lines.pop_if(|line| line.starts_with("  without ticks, "));
         let last = lines.last().unwrap_or(&"");
         lines.len() > 3 && part.starts_with("class ") && last.starts_with("  the line")
     };
@@ -115,6 +116,11 @@ mod tests {
         let first = "own bytes 1, largest packet 1, three packets 3\n";
         let class = "\nclass 2 (row 1)\n  own bytes: 1\n  class 2: ..\n  the line ..\n";
         assert!(whole(&format!("{first}{class}{class}"), ""));
+        let exact = format!("{class}  without ticks, ..\n");
+        assert!(whole(&format!("{first}{exact}{class}{exact}"), ""));
+        assert!(!whole(&format!("{first}{exact}  without ticks, ..\n"), ""));
+        let alone = exact.replace("  the line ..\n", "");
+        assert!(!whole(&format!("{first}{alone}"), ""));
         assert!(!whole(first, ""));
         assert!(!whole(&format!("{first}{class}\nclass 3 (row 2)\n"), ""));
     }

@@ -90,7 +90,7 @@ fn before_and_after() -> Vec<(String, Case)> {
         (4, row(0, 1, 1)),
         (5, row(1, 1, 1)),
         (7, row(20, 99, 1)),
-        (8, row(20, 1, 11)),
+        (8, row(20, 1, 841)),
         (10, row(20, 1, 840)),
         (15, row(LARGE + 1, 1, 1)),
     ];
@@ -112,7 +112,7 @@ fn with_others() -> Vec<(String, Case)> {
     let lists = [
         ("15", class(TOO_LARGE), 10),
         ("15 and 7", class(row(LARGE, 99, 1)), 10),
-        ("15 and 8", class(row(LARGE, 1, 11)), 10),
+        ("15 and 8", class(row(LARGE, 1, 841)), 10),
         ("15 and 10", class(row(LARGE, 1, 840)), 10),
         ("15 and 5", vec![ROOT, TEN, TOO_LARGE, TOO_LARGE], 10),
         ("15 and 6", root, 10),

@@ -6,6 +6,7 @@ mod form;
 mod identifiers;
 mod long;
 mod plan;
+mod rounding;
 mod shares;
 mod streams;
 mod texts;

@@ -7,6 +7,7 @@ use std::os::unix::ffi::OsStrExt;
 use crate::equal::equal_finishes;
 use crate::identifiers::all_identifiers;
 use crate::long::longest_packets;
+use crate::rounding::close_finishes;
 use crate::shares::all_shares;
 use crate::texts::{damaged, lengthened, Text};
 use trials::{Case, Program};
@@ -15,7 +16,7 @@ pub const TABLE: &str = "identifier,parent,share\n1,0,0\n2,1,420\n3,1,420\n4,2,4
 pub const EVENTS: &str = "class,length\n4,100\n3,100\n5,100\n0,0\n0,0\n4,1500\n";
 
 /// Numbers of arguments that no program takes, and one far beyond.
-const MANY: [usize; 2] = [4, 1000];
+const MANY: [usize; 2] = [5, 1000];
 
 #[derive(Clone)]
 pub enum Input {
@@ -59,6 +60,7 @@ pub fn trials() -> Vec<Trial> {
     all.extend(with_lists("equal finishes", equal_finishes()));
     all.extend(with_lists("longest packets", longest_packets()));
     all.extend(with_lists("share", all_shares()));
+    all.extend(with_lists("rounding", close_finishes()));
     all.extend(with_lists("identifier", all_identifiers()));
     all.extend(numbers_of_arguments());
     all.extend(sheet_arguments());
@@ -93,7 +95,7 @@ fn with_table(name: &str, table: Input) -> [Trial; 2] {
     };
     [
         trial(Program::Replay, vec![bytes(EVENTS)]),
-        trial(Program::Promise, vec![plain("1500"), plain("6000")]),
+        trial(Program::Promise, ["1500", "6000", "40"].map(plain).to_vec()),
     ]
 }
 
@@ -150,10 +152,11 @@ fn numbers_of_arguments() -> Vec<Trial> {
         all.push(trial(Program::Promise, count, TABLE));
     }
     all.push(trial(Program::Replay, 3, TABLE));
+    all.push(trial(Program::Replay, 4, TABLE));
     all
 }
 
-/// Short words that LARGEST and OWN may be given as.
+/// Short words that LARGEST, OWN and PACKETS may be given as.
 const SHORT: [&str; 32] = [
     "",
     "-1",
@@ -189,7 +192,7 @@ const SHORT: [&str; 32] = [
     "--help",
 ];
 
-/// What LARGEST and OWN may be given as.
+/// What LARGEST, OWN and PACKETS may be given as.
 fn values() -> Vec<OsString> {
     let mut values: Vec<OsString> = SHORT.into_iter().map(OsString::from).collect();
     for count in [1000, 100_000] {
@@ -217,8 +220,12 @@ fn sheet_arguments() -> Vec<Trial> {
     for value in values() {
         all.push(trial("LARGEST", &value, vec![plain(&value)]));
         all.push(trial("OWN", &value, vec![plain("1500"), plain(&value)]));
-        let both = vec![plain(&value), plain(&value)];
-        all.push(trial("LARGEST and OWN", &value, both));
+        let last = vec![plain("1500"), plain("6000"), plain(&value)];
+        all.push(trial("PACKETS", &value, last));
+        let both = vec![plain("1500"), plain(&value), plain(&value)];
+        all.push(trial("OWN and PACKETS", &value, both));
+        let all_three = vec![plain(&value); 3];
+        all.push(trial("LARGEST, OWN and PACKETS", &value, all_three));
     }
     all
 }

@@ -3,15 +3,15 @@
 use std::io::{Error, Result};
 use std::process::Command;
 
-/// The instructions of one piece of work, named by its places: table, what is asked, way. It is what
+/// The instructions of one piece of work, named by its places: what is asked, way. It is what
 /// ten rounds more add.
-pub fn instructions(program: &str, places: [usize; 3]) -> Result<f64> {
+pub fn instructions(program: &str, places: [usize; 2]) -> Result<f64> {
     let few = collected(program, places, 10)?;
     let more = collected(program, places, 20)?;
     Ok((more - few) / 10.0)
 }
 
-fn collected(program: &str, places: [usize; 3], rounds: usize) -> Result<f64> {
+fn collected(program: &str, places: [usize; 2], rounds: usize) -> Result<f64> {
     let run = Command::new("valgrind")
         .args(["--tool=callgrind", "--callgrind-out-file=/dev/null"])
         .args([program, "work"])

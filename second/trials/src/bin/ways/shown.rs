@@ -6,70 +6,50 @@ use std::process::Command;
 use crate::counting::instructions;
 use crate::timing::{best_times, Work};
 
-/// One thing that every way is asked, and how many answers one piece of work gives.
+/// One thing that every way is asked.
 pub struct Asked<'a> {
     pub name: &'static str,
-    pub answers: usize,
-    /// One for each column.
+    /// One for each way.
     pub works: Vec<Work<'a>>,
 }
 
-/// One table. Of its columns the first is what stood before; those that are no ways stand last.
+/// One column for each way, the first of which is what stood before and the last what stands.
 pub struct Table<'a> {
-    pub title: &'static str,
-    pub unit_name: &'static str,
-    pub first: &'static str,
-    pub columns: Vec<&'static str>,
-    pub ways: usize,
-    /// How many of its units a second has.
-    pub unit: f64,
-    /// Whether instructions are counted as well.
-    pub counted: bool,
+    pub ways: Vec<&'static str>,
     pub asked: Vec<Asked<'a>>,
 }
 
-/// A line of seconds for everything that is asked, for one answer in each column.
-pub fn print_times(tables: &[Table], runs: usize) {
-    for asked in tables.iter().flat_map(|table| &table.asked) {
+/// A line of seconds for everything that is asked, one for each way.
+pub fn print_times(table: &Table, runs: usize) {
+    for asked in &table.asked {
         let times = best_times(&asked.works, runs);
-        let figure = |time: &f64| (time / asked.answers as f64).to_string();
-        let figures: Vec<String> = times.iter().map(figure).collect();
+        let figures: Vec<String> = times.iter().map(f64::to_string).collect();
         println!("{}", figures.join(" "));
     }
 }
 
-/// The tables, with the best times that the programs have, which are this one again.
-pub fn print_tables(tables: &[Table], runs: &str, programs: &[&str]) -> Result<()> {
+/// The best times that the programs have, which are this one again, and the instructions.
+pub fn print_tables(table: &Table, runs: &str, programs: &[&str]) -> Result<()> {
     let mut best: Vec<Vec<f64>> = Vec::new();
     for program in programs {
         best = least(best, times_of(program, runs)?);
     }
-    let best_of = format!("best of {runs} runs of each of {} programs", programs.len());
-    let mut best = best.iter();
-    for (number, table) in tables.iter().enumerate() {
-        println!(
-            "\n{}, in {}: the {best_of}.\n",
-            table.title, table.unit_name
-        );
-        print_heading(table, table.columns.len());
-        for (asked, times) in table.asked.iter().zip(&mut best) {
-            print_line(asked.name, times, table.unit, table.ways);
-        }
-        if table.counted {
-            print_instructions(table, number, programs[0])?;
-        }
+    println!(
+        "The check of a flat table with a list, in microseconds: the best of {runs} runs of each \
+         of {} programs.\n",
+        programs.len()
+    );
+    print_heading(&table.ways);
+    for (asked, times) in table.asked.iter().zip(&best) {
+        print_line(asked.name, times, 1e6);
     }
-    Ok(())
-}
-
-fn print_instructions(table: &Table, number: usize, program: &str) -> Result<()> {
     println!("\nThe instructions of the same, by valgrind.\n");
-    print_heading(table, table.ways);
-    for (asked, Asked { name, .. }) in table.asked.iter().enumerate() {
-        let counts: Result<Vec<f64>> = (0..table.ways)
-            .map(|way| instructions(program, [number, asked, way]))
+    print_heading(&table.ways);
+    for (place, asked) in table.asked.iter().enumerate() {
+        let counts: Result<Vec<f64>> = (0..table.ways.len())
+            .map(|way| instructions(programs[0], [place, way]))
             .collect();
-        print_line(name, &counts?, 1.0, table.ways);
+        print_line(asked.name, &counts?, 1.0);
     }
     Ok(())
 }
@@ -95,20 +75,18 @@ fn least(a: Vec<Vec<f64>>, b: Vec<Vec<f64>>) -> Vec<Vec<f64>> {
         .collect()
 }
 
-fn print_heading(table: &Table, columns: usize) {
-    let names = &table.columns[..columns];
-    let [before, now] = [names[0], names[table.ways - 1]];
-    let first = table.first;
-    println!("| {first} | {} | {before} over {now} |", names.join(" | "));
-    println!("|---|{}--:|", "--:|".repeat(columns));
+fn print_heading(ways: &[&str]) {
+    let [before, now] = [ways[0], ways[ways.len() - 1]];
+    println!("| Input | {} | {before} over {now} |", ways.join(" | "));
+    println!("|---|{}--:|", "--:|".repeat(ways.len()));
 }
 
-/// The figures in this unit, and how often the last of the ways goes into the first.
-fn print_line(name: &str, figures: &[f64], unit: f64, ways: usize) {
+/// The figures times this, and how often the last of them goes into the first.
+fn print_line(name: &str, figures: &[f64], unit: f64) {
     let shown = figures.iter().map(|figure| figure * unit);
     let digits = |figure: f64| if figure < 1e4 { 2 } else { 0 };
     let shown: Vec<String> = shown.map(|f| format!("{f:.*}", digits(f))).collect();
-    let ratio = figures[0] / figures[ways - 1];
+    let ratio = figures[0] / figures[figures.len() - 1];
     println!("| {name} | {} | {ratio:.2} |", shown.join(" | "));
 }
 
