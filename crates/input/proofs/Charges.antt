@@ -22,7 +22,7 @@ allowed-parts w ok =
 
 module _ (n d : ℕ) (some : 0 < d) where
   -- by nothing where the division leaves nothing
-  pub rounded-exact : n % d ≡ 0 → d * rounded-up n d ≡ n
+  rounded-exact : n % d ≡ 0 → d * rounded-up n d ≡ n
   unfolding rounded-up
   rounded-exact none =
       let parts = div-add-mod n d in

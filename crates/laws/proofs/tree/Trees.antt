@@ -1,12 +1,12 @@
 -- A table and an event list that are not refused: what follows from that.
 -- Assumes nothing.
-use Prim.Native.Nat.{ℕ, zero, suc, _+_, _*_, _-_, _%_, _≤_, _<_}
+use Prim.Native.Nat.{ℕ, zero, suc, _+_, _*_, _-_, _/_, _%_, _≤_, _<_}
 use mathlib.Core.Path.{_≡_, refl, sym, _∙_, ap, subst}
 use mathlib.Core.Logic.{_≢_}
 use mathlib.Core.Bool.{Bool, true, false, cond, not, _||_}
 use mathlib.Core.List.{List, [], _∷_}
 use mathlib.Mathlib.Data.Bool.Basic.{or-eq-false-eq-eq-false-and-eq-false as or-is-false}
-use native.Mathlib.Nat.{add-mul, add-sub-of-le, dvd-mul-right-of-dvd, mod-eq-zero-of-dvd, dvd-of-mod-eq-zero}
+use native.Mathlib.Nat.{add-mul, add-sub-of-le, div-add-mod, mul-assoc, mul-le-mul-left, lt-of-mul-lt-mul-left}
 use native.Mathlib.Decide.{ℕ-discrete}
 use native.Mathlib.Omega.{arith}
 use lib.Dec.{T, ltb, eqb}
@@ -24,7 +24,7 @@ use Rattle.input.specs.Refusals.{given, or-else, first, first-below, Room, rows
 use Rattle.input.specs.Refusals.{shares-refused, table-refused, packet-refused, meeting-refused}
 use Rattle.rules.specs.Refused.{idle, event-refused, refused}
 use Rattle.input.proofs.Filled.{filled-at}
-use Rattle.input.proofs.Charges.{allowed-parts, rounded-exact, rounded-covers, rounded-close}
+use Rattle.input.proofs.Charges.{allowed-parts, rounded-covers, rounded-close}
 use Rattle.laws.specs.Sound.{Sound, ArrivalFits}
 use Rattle.laws.specs.Rounding.{rounding}
 use Rattle.laws.specs.History.{Accepted}
@@ -48,10 +48,16 @@ module _ (w l : ℕ) (ok : T (allowed w)) where
   unfolding charge
   charge-close = rounded-close (scale * l) w (share-positive w ok)
 
-  -- by no tick where the share divides the scale
-  charge-exact : scale % w ≡ 0 → w * charge l w ≡ scale * l
-  unfolding charge
-  charge-exact none = rounded-exact (scale * l) w (share-positive w ok) (mod-eq-zero-of-dvd w (dvd-mul-right-of-dvd w (dvd-of-mod-eq-zero w none) l))
+  -- so by none where the share divides the scale
+  charge-exact : scale % w ≡ 0 → w * charge l w ≤ scale * l
+  charge-exact none =
+      let divided = div-add-mod scale w in
+      let parts : scale ≡ w * (scale / w) = omega arith in
+      let packet : scale * l ≡ w * (scale / w * l) = ap (λ (x : ℕ). x * l) parts ∙ mul-assoc w (scale / w) l in
+      let close = charge-close in
+      let below : charge l w < suc (scale / w * l) = lt-of-mul-lt-mul-left w (omega arith) in
+      let times = mul-le-mul-left {m = charge l w} {n = scale / w * l} w (omega arith) in
+      omega arith
 
   pub charge-rounded : w * charge l w ≤ scale * l + w * rounding w
   unfolding rounding
