@@ -129,7 +129,7 @@ rounding-decides =
     }
 
 -- the rounding adds up. With nine tenths of the line, 10 bytes cost class 10 two thirds of a tick less than the 9334 that it is charged; after
--- nine packets that makes 6 ticks, and its tenth starts at 84006. The virtual time is 84000 then, where class 20's second packet starts, which
+-- nine packets that makes 6 ticks, and its tenth starts at 84006. The virtual time rises to 84000, where class 20's second packet starts, which
 -- goes first. Rounded once over all nine, class 10's would start there too, and finish first
 unfoldable pub rounding-adds-up : Run
 rounding-adds-up =
