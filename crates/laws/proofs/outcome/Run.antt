@@ -174,47 +174,47 @@ module _ (lent : Lent) (left : Outcome) (ran : Ran lent left) (done : left .answ
   pub share-is-rounded :
       (k a b : ℕ) → k < tree .rows → a ≤ b → b ≤ all → Backlogged tree events (sent left) k a b
       → Promised tree events (sent left) 2 (largest events all) (rounded-ticks tree events) k a b
-  share-is-rounded k a b inside order within-all =
+  share-is-rounded k a b inside order ended =
       subst (λ (order : List ℕ). Backlogged tree events order k a b → Promised tree events order 2 (largest events all) (rounded-ticks tree events) k a b)
-      (sym order-left) (promised tree events all ok k a b inside order within-all)
+      (sym order-left) (promised tree events all ok k a b inside order ended)
 
   pub share-is-two-packets :
       (k a b : ℕ) → k < tree .rows → a ≤ b → b ≤ all → Backlogged tree events (sent left) k a b
       → Promised tree events (sent left) 2 (largest events all) (ticks-for tree events) k a b
   unfolding rounded-ticks
-  share-is-two-packets k a b inside order within-all backlogged =
+  share-is-two-packets k a b inside order ended backlogged =
       more-promised tree (ok .sound) events (sent left) 2 2 (largest events all) (rounded-ticks tree events) (ticks-for tree events) k a b inside (omega arith)
       (λ r positive on.
       let one = mul-le-mul-right (ticks-for tree events (finished-in events (sent left) a b) r) (rounding-most (share tree r)) in
       omega arith)
-      (share-is-rounded k a b inside order within-all backlogged)
+      (share-is-rounded k a b inside order ended backlogged)
 
   -- the number that is asked for
   pub share-is-a-number :
       (k a b : ℕ) → k < tree .rows → a ≤ b → b ≤ all → Backlogged tree events (sent left) k a b
       → Promised tree events (sent left) packets-a-step (largest events all) (ticks-for tree events) k a b
-  share-is-a-number k a b inside order within-all backlogged =
+  share-is-a-number k a b inside order ended backlogged =
       more-promised tree (ok .sound) events (sent left) 2 packets-a-step (largest events all) (ticks-for tree events) (ticks-for tree events) k a b inside
       (omega arith) (λ r positive on. le-refl _)
-      (share-is-two-packets k a b inside order within-all backlogged)
+      (share-is-two-packets k a b inside order ended backlogged)
 
   -- no tick is needed where every share on the row's own path divides the scale, whatever the others have
   pub exact-share-is-two-packets :
       (k a b : ℕ) → k < tree .rows → a ≤ b → b ≤ all → Backlogged tree events (sent left) k a b → Exact tree k
       → Promised tree events (sent left) 2 (largest events all) no-ticks k a b
   unfolding rounded-ticks no-ticks
-  exact-share-is-two-packets k a b inside order within-all backlogged exact =
+  exact-share-is-two-packets k a b inside order ended backlogged exact =
       more-promised tree (ok .sound) events (sent left) 2 2 (largest events all) (rounded-ticks tree events) no-ticks k a b inside (omega arith)
       (λ r positive on. rw (rounding-none (share tree r) (exact r positive on)) (omega arith))
-      (share-is-rounded k a b inside order within-all backlogged)
+      (share-is-rounded k a b inside order ended backlogged)
 
   pub exact-share-is-a-number :
       (k a b : ℕ) → k < tree .rows → a ≤ b → b ≤ all → Backlogged tree events (sent left) k a b → Exact tree k
       → Promised tree events (sent left) packets-a-step (largest events all) no-ticks k a b
-  exact-share-is-a-number k a b inside order within-all backlogged exact =
+  exact-share-is-a-number k a b inside order ended backlogged exact =
       more-promised tree (ok .sound) events (sent left) 2 packets-a-step (largest events all) no-ticks no-ticks k a b inside (omega arith)
       (λ r positive on. le-refl _)
-      (exact-share-is-two-packets k a b inside order within-all backlogged exact)
+      (exact-share-is-two-packets k a b inside order ended backlogged exact)
 
   -- it is a number: its denominator is above 0
   pub share-denominator :

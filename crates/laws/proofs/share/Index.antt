@@ -228,15 +228,15 @@ module _ (tree : Tree) (events : Events) (last : ℕ) (ok : Accepted tree events
       + whole * (bytes-for tree events k (finished-in events (after tree events last .order) (suc i) (suc j)) + largest-for tree events k last))
       + share tree k * (rounding (share tree k) * suc (packets-for tree events k (finished-in events (after tree events last .order) (suc i) (suc j))))
   unfolding Backlogged
-  counted-index k i j positive inside before within-all backlogged due finished =
+  counted-index k i j positive inside before earlier backlogged due finished =
       let p = parent tree k in
       let above = sound .parent-row k positive inside in
-      let all = bytes-in tree events last ok (suc i) (suc j) p (omega arith) within-all above in
-      let own = bytes-in tree events last ok (suc i) (suc j) k (omega arith) within-all inside in
-      let ends = bytes-in tree events last ok j (suc j) k (omega arith) within-all inside in
+      let all = bytes-in tree events last ok (suc i) (suc j) p (omega arith) earlier above in
+      let own = bytes-in tree events last ok (suc i) (suc j) k (omega arith) earlier inside in
+      let ends = bytes-in tree events last ok j (suc j) k (omega arith) earlier inside in
       let all-is : bytes-of (box (suc j)) p - bytes-of (box (suc i)) p ≡ bytes-for tree events p (finished-in events (after tree events last .order) (suc i) (suc j)) = omega arith in
       let own-is : bytes-of (box (suc j)) k - bytes-of (box (suc i)) k ≡ bytes-for tree events k (finished-in events (after tree events last .order) (suc i) (suc j)) = omega arith in
-      rw (all-is, own-is) at (index p k i j (its-parent tree sound k positive inside) before within-all keeps (must due) (omega arith))
+      rw (all-is, own-is) at (index p k i j (its-parent tree sound k positive inside) before earlier keeps (must due) (omega arith))
     where
       keeps : Keeps tree events k (suc i) j
       keeps n low high =

@@ -56,7 +56,7 @@ finished-parts events order a b before =
     ∙ ap (λ (xs : List ℕ). xs ++ drop from by-then) (take-take from (finish-count events b) order (finish-grows events a b before))
 
 -- the packets of a stretch, by the order
-pub packets-in :
+packets-in :
     (tree : Tree) (events : Events) (order : List ℕ) (a b r : ℕ) → a ≤ b
     → packets-for tree events r (finished events order b)
     ≡ packets-for tree events r (finished events order a) + packets-for tree events r (finished-in events order a b)
