@@ -5,14 +5,15 @@ use mathlib.Core.Path.{_≡_, refl}
 use mathlib.Core.Logic.{⊎-elim}
 use mathlib.Core.Bool.{true, and-eq-true-iff}
 use mathlib.Core.List.{List}
-use native.Mathlib.Nat.{mul-le-mul-left, mul-le-mul-right, le-of-mul-le-mul-right, le-div-iff-mul-le, le-refl, le-trans}
+use native.Mathlib.Nat.{mul-le-mul-left, mul-le-mul-right, le-of-mul-le-mul-right, le-refl, le-trans}
 use native.Mathlib.Omega.{arith}
 use lib.Dec.{eqb}
-use borrow.Author.Tests.{ne-eqb, eqb-true}
+use borrow.Author.Tests.{eqb-true}
 use Rattle.input.specs.Limits.{scale, packets-a-step, ticks-a-step}
 use Rattle.input.specs.Classes.{Tree, tree-of, parent, depth, share}
 use Rattle.input.specs.Events.{Events, count}
 use Rattle.input.specs.Shares.{rounded-up}
+use Rattle.input.proofs.Charges.{rounded-covers}
 use Rattle.rules.specs.Outcome.{Lent, Outcome, room-of, Ran}
 use Rattle.rules.specs.Promise.{Ratio, within, line-most, largest, packets-for, bytes-for, line-bytes, finished-in, Backlogged}
 use Rattle.rules.specs.Promise.{ticks-for, no-ticks, Promised}
@@ -38,10 +39,10 @@ below-figure x f q stands below =
     le-of-mul-le-mul-right turned (stands .ratio-some)
 
 below-rounded : (x n d : ℕ) → 0 < d → x * d ≤ n → x ≤ rounded-up n d
-unfolding rounded-up
 below-rounded x n d some below =
-    let whole = le-div-iff-mul-le some .1 below in
-    rw (ne-eqb d 0 (λ none. omega arith)) (omega arith)
+    let covers = rounded-covers n d some in
+    let scaled : x * d ≤ rounded-up n d * d = omega arith in
+    le-of-mul-le-mul-right scaled some
 
 -- ── shares that divide the scale ──
 

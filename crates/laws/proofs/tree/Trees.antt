@@ -70,11 +70,11 @@ module _ (w l : ℕ) (ok : T (allowed w)) where
 -- a tick at most, and none where the share divides the scale
 pub rounding-most : (w : ℕ) → rounding w ≤ 1
 unfolding rounding
-rounding-most w = cond-most (eqb (scale % w) 0)
+rounding-most w = go (eqb (scale % w) 0)
   where
-    cond-most : (b : Bool) → cond b 0 1 ≤ 1
-    cond-most true = omega arith
-    cond-most false = omega arith
+    go : (divides : Bool) → cond divides 0 1 ≤ 1
+    go true = omega arith
+    go false = omega arith
 
 pub rounding-none : (w : ℕ) → scale % w ≡ 0 → rounding w ≡ 0
 unfolding rounding
