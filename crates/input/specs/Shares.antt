@@ -8,7 +8,7 @@ use Rattle.input.specs.Limits.{least-share, whole, scale}
 unfoldable pub allowed : ℕ → Bool
 allowed share = leb least-share share && leb share whole
 
--- a quotient rounded up; 0 over 0
+-- a quotient rounded up; 0 for a denominator of 0
 unfoldable pub rounded-up : ℕ → ℕ → ℕ
 rounded-up numerator denominator =
     cond (eqb denominator 0) 0 (numerator / denominator + cond (eqb (numerator % denominator) 0) 0 1)

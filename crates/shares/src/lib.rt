@@ -14,7 +14,7 @@ pub fn allowed(share: u32) -> bool
     share <= WHOLE
 }
 
-// A quotient rounded up; 0 over 0.
+// A quotient rounded up; 0 for a denominator of 0.
 pub fn rounded_up(numerator: u64, denominator: u64) -> u64
     ensures { λ r. ⌜ RoundsUp numerator denominator r ⌝ }
 {
