@@ -31,8 +31,8 @@ pub fn print<'a>(
     senders: &'a RowMarks,
 ) {
     let mut out = [0u8; 8192];
-    let more = sheet::ticks(packets);
-    let mut sink = put_heading(&mut out, onto(STDOUT_FILENO), largest, own, packets, more);
+    let ticks = sheet::ticks(packets);
+    let mut sink = put_heading(&mut out, onto(STDOUT_FILENO), largest, own, packets, ticks);
     let mut row = 0;
     while row < MOST_ROWS {
         sink = put_row(
@@ -41,7 +41,7 @@ pub fn print<'a>(
             senders[row],
             largest,
             own,
-            more,
+            ticks,
             identifiers,
             parents,
             depths,
@@ -59,7 +59,7 @@ fn put_heading(
     largest: u32,
     own: u32,
     packets: u32,
-    more: u64,
+    ticks: u64,
 ) -> Sink {
     let sink = put_named(out, sink, b"own bytes ", own);
     let sink = put_named(out, sink, b", largest packet ", largest);
@@ -67,7 +67,7 @@ fn put_heading(
     let sink = put_number(out, sink, packets_bytes(largest));
     let sink = put_named(out, sink, b", packets finished ", packets);
     let sink = put_text(out, sink, b", ticks ");
-    let sink = put_number(out, sink, more);
+    let sink = put_number(out, sink, ticks);
     put_byte(out, sink, 10)
 }
 
@@ -85,7 +85,7 @@ fn put_row<'a>(
     sends: bool,
     largest: u32,
     own: u32,
-    more: u64,
+    ticks: u64,
     identifiers: &'a [u32],
     parents: &'a [u32],
     depths: &'a [u32],
@@ -105,7 +105,7 @@ fn put_row<'a>(
         sink,
         largest,
         own,
-        more,
+        ticks,
         identifiers,
         parents,
         shares,
@@ -121,7 +121,7 @@ fn put_steps<'a>(
     sink: Sink,
     largest: u32,
     own: u32,
-    more: u64,
+    ticks: u64,
     identifiers: &'a [u32],
     parents: &'a [u32],
     shares: &'a [u32],
@@ -129,12 +129,12 @@ fn put_steps<'a>(
     depth: u32,
 ) -> Sink {
     let mut sink = sink;
-    let mut figure = sheet::after(0, parents, shares, row, largest, own, more);
+    let mut figure = sheet::after(0, parents, shares, row, largest, own, ticks);
     let mut at = row;
     let mut step = 0;
     while step < depth {
         step += 1;
-        let next = sheet::after(step, parents, shares, row, largest, own, more);
+        let next = sheet::after(step, parents, shares, row, largest, own, ticks);
         sink = put_step(
             out,
             sink,
@@ -142,7 +142,7 @@ fn put_steps<'a>(
             figure,
             largest,
             word(shares, at),
-            more,
+            ticks,
             next,
         );
         if !next.fits {
@@ -195,7 +195,7 @@ fn put_step(
     before: Figure,
     largest: u32,
     share: u32,
-    more: u64,
+    ticks: u64,
     after: Figure,
 ) -> Sink {
     let sink = put_named(out, sink, b"  class ", class);
@@ -206,7 +206,7 @@ fn put_step(
     let sink = put_named(out, sink, b") * ", WHOLE);
     let sink = put_named(out, sink, b" / ", share);
     let sink = put_text(out, sink, b" + ");
-    let sink = put_number(out, sink, more);
+    let sink = put_number(out, sink, ticks);
     let sink = put_named(out, sink, b" / ", TICKS);
     let sink = put_text(out, sink, b" = ");
     put_result(out, sink, after)

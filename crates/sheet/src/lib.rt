@@ -152,21 +152,21 @@ fn up_by_share(largest: u32, share: u32, from: Figure) -> Figure
     product(from.numerator + more, from.denominator, part)
 }
 
-fn plus_ticks(more: u64, from: Figure) -> Figure
+fn plus_ticks(ticks: u64, from: Figure) -> Figure
     requires { ⌜ (from .fits ≡ true → 0 < from .denominator) ⌝ }
-    ensures { λ r. ⌜ r ≡ with-ticks more from ⌝ }
+    ensures { λ r. ⌜ r ≡ with-ticks ticks from ⌝ }
 {
     if !from.fits {
         return outgrown();
     }
-    sum(from, lowest(more, TICKS as u64))
+    sum(from, lowest(ticks, TICKS as u64))
 }
 
-fn step(largest: u32, more: u64, share: u32, from: Figure) -> Figure
+fn step(largest: u32, ticks: u64, share: u32, from: Figure) -> Figure
     requires { ⌜ (from .fits ≡ true → 0 < from .denominator) ⌝ }
-    ensures { λ r. ⌜ r ≡ stepped largest more share from ⌝ }
+    ensures { λ r. ⌜ r ≡ stepped largest ticks share from ⌝ }
 {
-    plus_ticks(more, up_by_share(largest, share, from))
+    plus_ticks(ticks, up_by_share(largest, share, from))
 }
 
 // The figure after so many steps up from a row, from the row's own bytes, with as many ticks more at each step. A word past the end of
@@ -178,9 +178,9 @@ pub fn after<'a>(
     row: u32,
     largest: u32,
     own: u32,
-    more: u64,
+    ticks: u64,
 ) -> Figure
-    ensures { λ r. ⌜ Works steps (now (parents .entry)) (now (shares .entry)) row largest own more r ⌝ }
+    ensures { λ r. ⌜ Works steps (now (parents .entry)) (now (shares .entry)) row largest own ticks r ⌝ }
 {
     let mut figure = Figure {
         fits: true,
@@ -190,7 +190,7 @@ pub fn after<'a>(
     let mut at = row;
     let mut left = steps;
     while 0 < left {
-        figure = step(largest, more, word(shares, at), figure);
+        figure = step(largest, ticks, word(shares, at), figure);
         at = word(parents, at);
         left -= 1;
     }

@@ -11,12 +11,12 @@ use Rattle.sheet.proofs.after.Statement.{statement}
 use Rattle.sheet.proofs.after.Tie as tie
 
 abbrev Inv-loop : tie.InvT-loop
-Inv-loop steps parents shares row largest own more figure₀ at₀ left₀ figure at left =
+Inv-loop steps parents shares row largest own ticks figure₀ at₀ left₀ figure at left =
     (figure .fits ≡ true → 0 < figure .denominator)
-    × (climbing left parents shares largest more at figure ≡ worked steps parents shares largest more row own)
+    × (climbing left parents shares largest ticks at figure ≡ worked steps parents shares largest ticks row own)
 
 abbrev μ-loop : tie.MeasureT-loop
-μ-loop steps parents shares row largest own more figure₀ at₀ left₀ figure at left = left
+μ-loop steps parents shares row largest own ticks figure₀ at₀ left₀ figure at left = left
 
 loop-holds : tie.Need-loop-holds Inv-loop μ-loop
 unfolding worked

@@ -33,7 +33,7 @@ returns-2 : tie.Need-returns-2
 returns-2 c =
     let at = c .before .before in
     let args = at .before .before .args in
-    rw (ticks-added (args .more) (args .from) (not-false (args .from .fits) (at .if1 .left))) (rw (c .before .lowest .ensures) at (c .sum .ensures))
+    rw (ticks-added (args .ticks) (args .from) (not-false (args .from .fits) (at .if1 .left))) (rw (c .before .lowest .ensures) at (c .sum .ensures))
 
 pub plus-ticks-spec : {M : Type 1} → statement M
 plus-ticks-spec = tie.close (tie.spec outgrown-requires returns cast-lowest lowest-requires sum-requires returns-2)

@@ -7,10 +7,10 @@ use Rattle.promise.proofs.lines.print.Statement.{statement}
 use Rattle.promise.proofs.lines.print.Tie as tie
 
 abbrev Inv-loop : tie.InvT-loop
-Inv-loop largest own packets identifiers parents depths shares senders out₀ more sink₀ row₀ out sink row = row ≤ most-rows
+Inv-loop largest own packets identifiers parents depths shares senders out₀ ticks sink₀ row₀ out sink row = row ≤ most-rows
 
 abbrev μ-loop : tie.MeasureT-loop
-μ-loop largest own packets identifiers parents depths shares senders out₀ more sink₀ row₀ out sink row = most-rows - row
+μ-loop largest own packets identifiers parents depths shares senders out₀ ticks sink₀ row₀ out sink row = most-rows - row
 
 ticks-requires : tie.Need-ticks-requires Inv-loop μ-loop
 ticks-requires c κs = search needs

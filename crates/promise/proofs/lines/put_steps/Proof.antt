@@ -6,11 +6,11 @@ use Rattle.promise.proofs.lines.put_steps.Statement.{statement}
 use Rattle.promise.proofs.lines.put_steps.Tie as tie
 
 abbrev Inv-loop : tie.InvT-loop
-Inv-loop out₀ largest own more identifiers parents shares row depth sink₀ figure₀ at₀ step₀ out sink figure at step =
+Inv-loop out₀ largest own ticks identifiers parents shares row depth sink₀ figure₀ at₀ step₀ out sink figure at step =
     step ≤ depth
 
 abbrev μ-loop : tie.MeasureT-loop
-μ-loop out₀ largest own more identifiers parents shares row depth sink₀ figure₀ at₀ step₀ out sink figure at step =
+μ-loop out₀ largest own ticks identifiers parents shares row depth sink₀ figure₀ at₀ step₀ out sink figure at step =
     depth - step
 
 after-requires : tie.Need-after-requires Inv-loop μ-loop
