@@ -1,4 +1,4 @@
--- Choosing at a row and up a path, and what an event does to the rows of one path and to no other.
+-- Choosing at a row and up a path, that heads name their packets, and what an event does to the rows of one path and to no other.
 pub mod Tests
 pub mod Least
 pub mod Writing
@@ -8,3 +8,4 @@ pub mod Rising
 pub mod Settling
 pub mod ArrivalPath
 pub mod DeparturePath
+pub mod Naming

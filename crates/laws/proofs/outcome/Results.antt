@@ -28,7 +28,7 @@ over-at : {A : Type 0} (xs ys : List A) (i : ℕ) (d : A) → i < length xs → 
 unfolding over
 over-at xs ys i d inside = List·getD-append xs (drop (length xs) ys) d i inside
 
-over-first : {A : Type 0} (xs ys : List A) → take (length xs) (over xs ys) ≡ xs
+pub over-first : {A : Type 0} (xs ys : List A) → take (length xs) (over xs ys) ≡ xs
 unfolding over
 over-first xs ys = take-append-seam xs (drop (length xs) ys)
 
@@ -97,7 +97,7 @@ module _ (lent : Lent) (left : Outcome) (ran : Ran lent left) (done : left .answ
       go true e answer = eqb-true (refusal .number) 0 e
       go false e answer = answer
 
-  done-left : left ≡ doing lent (tree-of (lent .table)) last
+  pub done-left : left ≡ doing lent (tree-of (lent .table)) last
   unfolding outcome
   done-left = ran ∙ rw (eq-eqb (refusal .number) 0 not-refused)
 

@@ -2,7 +2,7 @@
 -- Assumes nothing.
 use Prim.Native.Nat.{ℕ, _+_, _*_, _≤_, _<_, max}
 use mathlib.Core.Path.{_≡_, refl, sym, _∙_}
-use mathlib.Core.Logic.{_≢_, _⊎_, inl, inr}
+use mathlib.Core.Logic.{_≢_, _⊎_, inl, inr, ⊎-elim}
 use mathlib.Core.Bool.{true, false, and-eq-true-iff}
 use native.Mathlib.Decide.{ℕ-discrete, decLe}
 use native.Mathlib.Omega.{arith}
@@ -308,14 +308,28 @@ module _ (tree : Tree) (sound : Sound tree) (why : Why) (p : ℕ) (inner : Inner
       own : SameKid x y k
       own = same k kid
 
-  pub chooses-what : Nobody tree x (chooses tree why p x) p ⊎ ((k : ℕ) × Somebody tree why x (chooses tree why p x) p k)
+  -- the same by the child that is picked: p's virtual time rises and passes over it
+  pub record Picks : Type 0 where
+    pub some : picked tree x p ≢ 0
+    pub taken : Somebody tree why x (chooses tree why p x) p (picked tree x p)
+    pub passed : virtual (chooses tree why p x) p ≡ risen tree x p + ticks * head-length x (picked tree x p)
+
+  pub chooses-picked : ((picked tree x p ≡ 0) × Nobody tree x (chooses tree why p x) p) ⊎ Picks
   unfolding picked
-  chooses-what = go (found (eligible tree x p (risen tree x p)) (finish x) (head x) (eligible-root tree x p (risen tree x p)) (tree .rows))
+  chooses-picked = go (found (eligible tree x p (risen tree x p)) (finish x) (head x) (eligible-root tree x p (risen tree x p)) (tree .rows))
     where
       go :
           Found (eligible tree x p (risen tree x p)) (finish x) (head x) (λ j. j < tree .rows) (picked tree x p)
-          → Nobody tree x (chooses tree why p x) p ⊎ ((k : ℕ) × Somebody tree why x (chooses tree why p x) p k)
-      go (inl f) = inl (rw (chooses-none tree why p x (f .0)) (nobody (none-waiting tree x p (f .1))))
+          → ((picked tree x p ≡ 0) × Nobody tree x (chooses tree why p x) p) ⊎ Picks
+      go (inl f) = inl (f .0, rw (chooses-none tree why p x (f .0)) (nobody (none-waiting tree x p (f .1))))
       go (inr f) =
           let k = picked tree x p in
-          inr (k, rw (chooses-some tree why p x (f .0)) (somebody k (takes tree why p k x) (takes-took k) (f .1)))
+          let took = takes-took k in
+          inr (record {
+            some = f .0;
+            taken = rw (chooses-some tree why p x (f .0)) (somebody k (takes tree why p k x) took (f .1));
+            passed = rw (chooses-some tree why p x (f .0)) (took .passed);
+          })
+
+  pub chooses-what : Nobody tree x (chooses tree why p x) p ⊎ ((k : ℕ) × Somebody tree why x (chooses tree why p x) p k)
+  chooses-what = ⊎-elim (λ none. inl (none .1)) (λ some. inr (picked tree x p, some .taken)) chooses-picked

@@ -78,12 +78,12 @@ module _ (tree : Tree) (sound : Sound tree) (k : ℕ) (inside : k < tree .rows) 
 -- ── the packet leaves ──
 
 -- row r has lost its head, and its tags stay
-record Cleared (a b : Rows) (r : ℕ) : Type 0 where
-  none : head b r ≡ 0
-  no-length : head-length b r ≡ 0
-  start-same : start b r ≡ start a r
-  finish-same : finish b r ≡ finish a r
-  virtual-same : virtual b r ≡ virtual a r
+pub record Cleared (a b : Rows) (r : ℕ) : Type 0 where
+  pub none : head b r ≡ 0
+  pub no-length : head-length b r ≡ 0
+  pub start-same : start b r ≡ start a r
+  pub finish-same : finish b r ≡ finish a r
+  pub virtual-same : virtual b r ≡ virtual a r
 
 module _ (tree : Tree) (sound : Sound tree) (a : Rows) (full : Full a) (k : ℕ) (inside-k : k < tree .rows) where
   pub leaves-full : Full (leaves tree k a)
@@ -104,7 +104,7 @@ module _ (tree : Tree) (sound : Sound tree) (a : Rows) (full : Full a) (k : ℕ)
   cleared-entry r b xs inside whole e =
       along-at tree sound (λ i n. 0) k r xs inside-k inside whole ∙ ap (λ (t : Bool). cond t 0 (getD xs r 0)) e
 
-  leaves-off : (r : ℕ) → r < tree .rows → within tree r k ≡ false → SameRow a (leaves tree k a) r
+  pub leaves-off : (r : ℕ) → r < tree .rows → within tree r k ≡ false → SameRow a (leaves tree k a) r
   unfolding leaves
   leaves-off r inside off =
       record {
@@ -122,7 +122,7 @@ module _ (tree : Tree) (sound : Sound tree) (a : Rows) (full : Full a) (k : ℕ)
         virtual-same = refl;
       }
 
-  leaves-on : (r : ℕ) → r < tree .rows → within tree r k ≡ true → Cleared a (leaves tree k a) r
+  pub leaves-on : (r : ℕ) → r < tree .rows → within tree r k ≡ true → Cleared a (leaves tree k a) r
   unfolding leaves
   leaves-on r inside on =
       record {

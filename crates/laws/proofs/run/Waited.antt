@@ -19,6 +19,7 @@ use Rattle.rules.specs.declared.Why.the-variants.{Finished, Arrived}
 use Rattle.laws.specs.Sound.{Sound, Kid, Inner, Sender, ArrivalFits}
 use Rattle.laws.specs.Moves.{Full}
 use Rattle.laws.specs.Kept.{HeadOf, Kept}
+use Rattle.laws.specs.Named.{PacketOf, Named, class-for}
 use Rattle.laws.specs.Choices.{Choice, choices, why-of, front, choices-of, Made, Apart, Clear}
 use Rattle.laws.specs.History.{Accepted}
 use Rattle.laws.proofs.tree.Paths.{kid-apart, parent-is-inner, self-within, parent-within, one-child}
@@ -26,6 +27,7 @@ use Rattle.laws.proofs.tree.Depths.{kid-deeper, lower-kid}
 use Rattle.laws.proofs.path.Choosing.{Nobody, Somebody, new-head-full, new-head-elsewhere, new-head-here, chooses-full, chooses-elsewhere, chooses-what}
 use Rattle.laws.proofs.path.DeparturePath.{leaves-full, leaves-head, renews-full}
 use Rattle.laws.proofs.path.Looking.{clear}
+use Rattle.laws.proofs.path.Naming.{named-apart, new-head-named, chooses-named, leaves-named, own-packet}
 use Rattle.laws.proofs.event.Turns.{class-at, Arrives, fewer, turn}
 use Rattle.laws.proofs.event.Largest.{parts-largest}
 use Rattle.laws.proofs.event.OneEvent.{line-sender}
@@ -78,82 +80,17 @@ choices-made tree place Finish box =
 -- ── heads and what they name ──
 
 module _ (tree : Tree) (sound : Sound tree) (events : Events) where
-  -- a head that is a packet for a sending class in row r's part of the tree
-  record PacketOf (r packet : ℕ) : Type 0 where
-    sends : Sender tree (class-at tree events (pred packet))
-    part : within tree r (class-at tree events (pred packet)) ≡ true
-
-  -- every head is one
-  abbrev Named : Rows → Type 0
-  Named x = (r : ℕ) → r < tree .rows → head x r ≢ 0 → PacketOf r (head x r)
-
-  named-apart : (x : Rows) → Named x → Apart tree x
-  named-apart x named p j k kid-j kid-k some same =
-      let one = named j (kid-j .inside) some in
-      let two = named k (kid-k .inside) (λ none. some (same ∙ none)) in
-      one-child tree sound p j k (class-at tree events (pred (head x j))) (one .sends .inside) kid-j kid-k (one .part)
-      (subst (λ (h : ℕ). within tree k (class-at tree events (pred h)) ≡ true) (sym same) (two .part))
-
-  -- ── what keeps heads named ──
-
-  -- a row that has the head of another state has its name
-  as-before : (x y : Rows) (r : ℕ) → r < tree .rows → Named x → head y r ≡ head x r → head y r ≢ 0 → PacketOf r (head y r)
-  as-before x y r inside named same some =
-      subst (λ (h : ℕ). PacketOf r h) (sym same) (named r inside (λ none. some (same ∙ none)))
-
-  new-head-named :
-      (why : Why) (r packet length class : ℕ) → r < tree .rows → (x : Rows) → Full x → PacketOf r packet → Named x
-      → Named (new-head tree why r packet length class x)
-  new-head-named why r packet length class inside x full its named j j-inside some = go (ℕ-discrete j r)
-    where
-      now : Rows
-      now = new-head tree why r packet length class x
-
-      go : Dec (j ≡ r) → PacketOf j (head now j)
-      go (yes e) =
-          subst (λ (i : ℕ). PacketOf i (head now i)) (sym e)
-          (subst (λ (h : ℕ). PacketOf r h) (sym (new-head-here tree sound why r packet length class inside x full .0)) its)
-      go (no apart) =
-          as-before x now j j-inside named (new-head-elsewhere tree sound why r packet length class inside x full j apart .kid .head-same .packet-same) some
-
-  chooses-named : (why : Why) (p : ℕ) → Inner tree p → (x : Rows) → Full x → Named x → Named (chooses tree why p x)
-  chooses-named why p inner x full named j inside some = go (ℕ-discrete j p)
-    where
-      now : Rows
-      now = chooses tree why p x
-
-      elsewhere : (i : ℕ) → i ≢ p → head now i ≡ head x i
-      elsewhere i apart = chooses-elsewhere tree sound why p inner x full i apart .kid .head-same .packet-same
-
-      taken : Nobody tree x now p ⊎ ((k : ℕ) × Somebody tree why x now p k) → head now p ≢ 0 → PacketOf p (head now p)
-      taken (inl none) has = absurd (has (none .no-head))
-      taken (inr (k, choice)) has =
-          let pick = choice .pick in
-          let its = as-before x now k (pick .kid .inside) named (elsewhere k (kid-apart tree sound p k (pick .kid))) (pick .waiting) in
-          subst (λ (h : ℕ). PacketOf p h) (sym (pick .takes .packet-same))
-          (record { sends = its .sends; part = parent-within tree sound p k _ (its .sends .inside) (pick .kid) (its .part) })
-
-      go : Dec (j ≡ p) → PacketOf j (head now j)
-      go (yes e) =
-          subst (λ (i : ℕ). head now i ≢ 0 → PacketOf i (head now i)) (sym e) (taken (chooses-what tree sound why p inner x full)) some
-      go (no apart) = as-before x now j inside named (elsewhere j apart) some
-
-  leaves-named : (k : ℕ) → k < tree .rows → (x : Rows) → Full x → Named x → Named (leaves tree k x)
-  leaves-named k k-inside x full named r inside some =
-      ⊎-elim (λ none. absurd (some none)) (λ same. as-before x (leaves tree k x) r inside named same some)
-      (leaves-head tree sound x full k k-inside r inside)
-
-  of-class : (k i : ℕ) → Sender tree k → class-at tree events i ≡ k → PacketOf k (suc i)
-  of-class k i sender known = record { sends = rw known sender; part = rw known (self-within tree sound k) }
+  abbrev Names : Rows → Type 0
+  Names x = Named tree (class-for tree events) x
 
   renews-named :
-      (k : ℕ) → Sender tree k → (later : List Packet) → All (Known tree events k) later → (x : Rows) → Full x → Named x
-      → Named (renews tree k later x)
+      (k : ℕ) → Sender tree k → (later : List Packet) → All (Known tree events k) later → (x : Rows) → Full x → Names x
+      → Names (renews tree k later x)
   unfolding renews
   renews-named k sender [] known x full named = named
   renews-named k sender (packet ∷ later) (first, more) x full named =
-      new-head-named Finished k (suc (packet .place)) (packet .length) k (sender .inside) x full
-      (of-class k (packet .place) sender (first .class-known)) named
+      new-head-named tree sound (class-for tree events) Finished k (suc (packet .place)) (packet .length) k (sender .inside) x full
+      (own-packet tree sound (class-for tree events) k (suc (packet .place)) sender (first .class-known)) named
 
   -- ── up the tree ──
 
@@ -161,13 +98,13 @@ module _ (tree : Tree) (sound : Sound tree) (events : Events) where
   AllClear cs = All (λ (c : Choice). Clear tree (c .rows) (c .chooser)) cs
 
   choices-clear :
-      (why : Why) (d r : ℕ) (x : Rows) → r < tree .rows → depth tree r ≡ d → Full x → Named x → AllClear (choices d tree why r x)
+      (why : Why) (d r : ℕ) (x : Rows) → r < tree .rows → depth tree r ≡ d → Full x → Names x → AllClear (choices d tree why r x)
   unfolding choices
   choices-clear why zero r x inside deep full named = tt
   choices-clear why (suc d) r x inside deep full named =
       go (has-head x p)
       (choices-clear why d p (chooses tree why p x) (inner .inside) (let h = kid-deeper tree sound p r kid in omega arith)
-      (chooses-full tree sound why p inner x full) (chooses-named why p inner x full named))
+      (chooses-full tree sound why p inner x full) (chooses-named tree sound (class-for tree events) why p inner x full named))
     where
       p : ℕ
       p = parent tree r
@@ -182,7 +119,7 @@ module _ (tree : Tree) (sound : Sound tree) (events : Events) where
           (b : Bool) → AllClear (choices d tree why p (chooses tree why p x))
           → AllClear (cond b [] (record { chooser = p; rows = x } ∷ choices d tree why p (chooses tree why p x)))
       go true later = tt
-      go false later = (clear tree x p (named-apart x named), later)
+      go false later = (clear tree x p (named-apart tree sound (class-for tree events) x named), later)
 
 -- ── a run ──
 
@@ -197,7 +134,7 @@ module _ (tree : Tree) (events : Events) where
     known : (k : ℕ) → Sender tree k → All (Known tree events k) (queue-of box k)
     known = counted tree events n ok .1 .queue-known
 
-    box-named : Named tree (ok .sound) events (box .rows)
+    pub box-named : Named tree (class-for tree events) (box .rows)
     unfolding HeadOf
     box-named r inside some = go (queue-of box class) (well .heads-kept class sender) (known class sender)
       where
@@ -209,16 +146,16 @@ module _ (tree : Tree) (events : Events) where
 
         go :
             (queue : List Packet) → HeadOf (box .rows) class queue → All (Known tree events class) queue
-            → PacketOf tree (ok .sound) events r (head (box .rows) r)
+            → PacketOf tree (class-for tree events) r (head (box .rows) r)
         go [] none all = absurd (some (sym (class-head tree (ok .sound) (box .rows) (well .settled) r inside some .packet-same) ∙ none))
         go (first ∷ later) (named, long, own) (here, more) =
-            subst (λ (h : ℕ). PacketOf tree (ok .sound) events r h)
+            subst (λ (h : ℕ). PacketOf tree (class-for tree events) r h)
             (sym (sym (class-head tree (ok .sound) (box .rows) (well .settled) r inside some .packet-same) ∙ named))
             (record { sends = rw (here .class-known) sender; part = rw (here .class-known) (well .settled .of-part r inside some) })
 
     -- between events no two children of a row have the same head
     pub heads-apart : Apart tree (after tree events n .rows)
-    heads-apart = named-apart tree (ok .sound) events (box .rows) box-named
+    heads-apart = named-apart tree (ok .sound) (class-for tree events) (box .rows) box-named
 
     abbrev clear-here : Type 0
     clear-here = AllClear tree (ok .sound) events (choices-of tree n (event events n) box)
@@ -240,8 +177,8 @@ module _ (tree : Tree) (events : Events) where
         go false =
             choices-clear tree (ok .sound) events Arrived (depth tree k) k first (fits .sender .inside) refl
             (new-head-full tree (ok .sound) Arrived k (suc n) (length-word events n) k (fits .sender .inside) (box .rows) (well .rows-full))
-            (new-head-named tree (ok .sound) events Arrived k (suc n) (length-word events n) k (fits .sender .inside) (box .rows) (well .rows-full)
-            (of-class tree (ok .sound) events k n (fits .sender) refl) box-named)
+            (new-head-named tree (ok .sound) (class-for tree events) Arrived k (suc n) (length-word events n) k (fits .sender .inside) (box .rows) (well .rows-full)
+            (own-packet tree (ok .sound) (class-for tree events) k (suc n) (fits .sender) refl) box-named)
 
     finish-clear : event events n ≡ Finish → head (box .rows) 0 ≢ 0 → clear-here
     unfolding front choices-of
@@ -250,7 +187,7 @@ module _ (tree : Tree) (events : Events) where
         (choices-clear tree (ok .sound) events Finished (depth tree k) k (renews tree k (left box) idle) (sender .inside) refl
         (renews-full tree (ok .sound) k (sender .inside) idle idle-full (left box))
         (renews-named tree (ok .sound) events k sender (left box) (all-tail (queue-of box k) (known k sender)) idle idle-full
-        (leaves-named tree (ok .sound) events k (sender .inside) (box .rows) (well .rows-full) box-named)))
+        (leaves-named tree (ok .sound) (class-for tree events) k (sender .inside) (box .rows) (well .rows-full) box-named)))
       where
         k : ℕ
         k = line-class box
