@@ -1,0 +1,2 @@
+-- What it is that those that wait are filed in heaps.
+pub mod Heaped
