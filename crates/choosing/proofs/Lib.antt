@@ -1,4 +1,4 @@
 -- What the proofs of a row's steps cite, and those of the steps up the tree.
-pub mod Parts
-pub mod Scan
+pub mod Filing
+pub mod Taking
 pub mod Ticks

@@ -15,9 +15,9 @@ use Rattle.input.specs.Classes.{Tree, parent}
 use Rattle.rules.specs.Box.{Rows, start, virtual, head}
 use Rattle.rules.specs.Steps.{with-virtual, next-start, waits, least, raised}
 use Rattle.input.specs.Lent.{tree-with}
-use Rattle.choosing.specs.Arrays.{raised-of, next-start-of}
+use Rattle.looking.specs.Arrays.{next-start-of}
 use Rattle.choosing.specs.Sizes.{Leeway, most-charge, most-passed}
-use Rattle.choosing.proofs.Parts.{raised-part, next-start-part}
+use Rattle.looking.proofs.Parts.{next-start-part}
 
 pub less-leeway : (m n : ℕ) (rows : Rows) → n ≤ m → Leeway m rows → Leeway n rows
 less-leeway m n rows less leeway =
@@ -53,14 +53,6 @@ charged-fits {rows} leeway parents why r length share short =
     let small = next-start-leeway most-charge (tree-with 0 [] parents [] []) rows leeway why r in
     let same = next-start-part (tree-with 0 [] parents [] []) rows why r in
     let cheap = charge-most length share in
-    omega arith
-
--- the raised virtual time has the leeway that the tags have
-pub raised-fits : {n : ℕ} {rows : Rows} → Leeway n rows → (m : ℕ) (parents : List ℕ) (p : ℕ)
-    → raised-of m parents (rows .starts) (rows .virtuals) (rows .heads) p + n < 2 ^ 64
-raised-fits {n} {rows} leeway m parents p =
-    let small = raised-leeway n (tree-with m [] parents [] []) rows leeway p in
-    let same = raised-part (tree-with m [] parents [] []) rows p in
     omega arith
 
 pub passed-leeway : (n v : ℕ) (rows : Rows) → v + (n + most-passed) < 2 ^ 64 → Leeway (n + most-passed) rows

@@ -1,3 +1,3 @@
 -- What the contracts of a row's steps speak of beside the rules.
-pub mod Arrays
 pub mod Sizes
+pub mod Filed

@@ -1,26 +1,38 @@
-// What one row does, on arrays with an entry for each row that there can be: it gets a head, it is charged for one, and it chooses
-// among its children.
+// What one row does, on arrays with an entry for each row that there can be: it gets a head, it is charged for one, it is filed with those
+// that wait at its parent, and it chooses among its children.
+//
+// How a row finds the child that it takes is the one thing that the engines do not share. It goes by `Way`, over arrays of bytes that
+// each way reads as its own. Heaps have a root for each and two links for each row. To look through a row's children, the roots' array says
+// where they begin in the list of all children, and the right links' array is that list.
 //
 // What these functions require holds of every box. Rows and parents are rows that there can be, so no array is read outside. Lengths
 // are packets', and every tag has the leeway for the ticks that its row is charged or passes, so no sum wraps.
 ghost use mathlib.Core.Path.{_≡_};
 ghost use mathlib.Core.List.{List};
-ghost use Prim.Native.Nat.{ℕ, _+_, _<_, _≤_, _^_, max};
+ghost use Prim.Native.Nat.{ℕ, _+_, _<_, _≤_, _^_};
 ghost use lib.ListN.{getD, set};
 ghost use Rattle.input.specs.Limits.{most-rows, most-bytes};
-ghost use Rattle.rules.specs.Steps as steps;
+ghost use Rattle.input.specs.Classes.{Tree};
 ghost use Rattle.input.specs.Lent.{tree-with};
-ghost use Rattle.choosing.specs.Arrays.{rows-of, Inside, has-head-of, waits-of, eligible-of, raised-of, next-start-of};
+ghost use Rattle.rules.specs.Steps as steps;
+ghost use Rattle.laws.specs.Sound.{Sound, Kid};
+ghost use Rattle.heaps.specs.Heaps.{forest};
+ghost use Rattle.filing.specs.Heaped.{Heaped};
+ghost use Rattle.looking.specs.Arrays.{rows-of, Inside, has-head-of, next-start-of};
 ghost use Rattle.choosing.specs.Sizes.{Leeway, most-charge, most-choice};
+ghost use Rattle.choosing.specs.Filed.{Filed, Chooses, Found, Chosen};
+use heaps::Roots;
+use heaps::Sides;
 use input::RowLongs;
 use input::RowWords;
 use input::TICKS;
+use rules::Choice;
 use rules::Why;
 
-fn larger(a: u64, b: u64) -> u64
-    ensures { λ r. ⌜ r ≡ max a b ⌝ }
-{
-    if a < b { b } else { a }
+// How a row finds the child that it takes: by looking at its children one after another, or by its two heaps.
+pub enum Way {
+    Looking,
+    Heaps,
 }
 
 pub fn has_head(heads: &RowWords, r: usize) -> bool
@@ -28,125 +40,6 @@ pub fn has_head(heads: &RowWords, r: usize) -> bool
     ensures { λ b. ⌜ b ≡ has-head-of (now (heads .entry)) r ⌝ }
 {
     heads[r] != 0
-}
-
-// Whether row r is a child of p with a head.
-fn waits(parents: &RowWords, heads: &RowWords, p: u32, r: usize) -> bool
-    requires { ⌜ r < most-rows ⌝ }
-    ensures { λ b. ⌜ b ≡ waits-of (now (parents .entry)) (now (heads .entry)) p r ⌝ }
-{
-    if parents[r] != p {
-        return false;
-    }
-    if heads[r] == 0 {
-        return false;
-    }
-    0 < r
-}
-
-// Whether it waits and its start is at most v.
-fn eligible(
-    parents: &RowWords,
-    starts: &RowLongs,
-    heads: &RowWords,
-    p: u32,
-    v: u64,
-    r: usize,
-) -> bool
-    requires { ⌜ r < most-rows ⌝ }
-    ensures { λ b. ⌜ b ≡ eligible-of (now (parents .entry)) (now (starts .entry)) (now (heads .entry)) p v r ⌝ }
-{
-    if waits(parents, heads, p, r) {
-        starts[r] <= v
-    } else {
-        false
-    }
-}
-
-// Whether row a goes before row b: its key is less, or as large and its head packet arrived earlier.
-fn sooner(keys: &RowLongs, heads: &RowWords, a: usize, b: usize) -> bool
-    requires { ⌜ a < most-rows ⌝ }
-    requires { ⌜ b < most-rows ⌝ }
-    ensures { λ s. ⌜ s ≡ steps.sooner (λ (i : ℕ). getD (now (keys .entry)) i 0) (λ (i : ℕ). getD (now (heads .entry)) i 0) a b ⌝ }
-{
-    if keys[a] == keys[b] {
-        return heads[a] < heads[b];
-    }
-    keys[a] < keys[b]
-}
-
-// Of two rows, the second if it passes and goes before the first; the first may be 0, which is no row.
-fn lesser(passes: bool, keys: &RowLongs, heads: &RowWords, best: usize, r: usize) -> usize
-    requires { ⌜ best < most-rows ⌝ }
-    requires { ⌜ r < most-rows ⌝ }
-    ensures { λ k. ⌜ k ≡ steps.lesser (λ (i : ℕ). passes) (λ (i : ℕ). getD (now (keys .entry)) i 0)
-        (λ (i : ℕ). getD (now (heads .entry)) i 0) best r ⌝ }
-{
-    if passes {
-        if best == 0 {
-            return r;
-        }
-        if sooner(keys, heads, r, best) {
-            r
-        } else {
-            best
-        }
-    } else {
-        best
-    }
-}
-
-// Of the children of p that are eligible at v the one with the least key, of equal keys that whose head packet arrived first; 0 where none
-// is.
-fn least(
-    rows: usize,
-    parents: &RowWords,
-    starts: &RowLongs,
-    keys: &RowLongs,
-    heads: &RowWords,
-    p: u32,
-    v: u64,
-) -> usize
-    requires { ⌜ rows ≤ most-rows ⌝ }
-    ensures { λ k. ⌜ k ≡ steps.least (eligible-of (now (parents .entry)) (now (starts .entry)) (now (heads .entry)) p v)
-        (λ (i : ℕ). getD (now (keys .entry)) i 0) (λ (i : ℕ). getD (now (heads .entry)) i 0) rows ⌝ }
-{
-    let mut best = 0;
-    let mut i = 0;
-    while i < rows {
-        best = lesser(
-            eligible(parents, starts, heads, p, v, i),
-            keys,
-            heads,
-            best,
-            i,
-        );
-        i += 1;
-    }
-    best
-}
-
-// The virtual time of p, raised to the least start among its waiting children if it is lower. At the highest number all that wait
-// are eligible, since their starts are numbers of 64 bits.
-fn raised(
-    rows: usize,
-    parents: &RowWords,
-    starts: &RowLongs,
-    virtuals: &RowLongs,
-    heads: &RowWords,
-    p: u32,
-) -> u64
-    requires { ⌜ rows ≤ most-rows ⌝ }
-    requires { ⌜ p < most-rows ⌝ }
-    requires { ⌜ ((i : ℕ) → getD (now starts) i 0 < 2 ^ 64) ⌝ }
-    ensures { λ v. ⌜ v ≡ raised-of rows (now (parents .entry)) (now (starts .entry)) (now (virtuals .entry)) (now (heads .entry)) p ⌝ }
-{
-    let first = least(rows, parents, starts, starts, heads, p, u64::MAX);
-    let v = virtuals[p as usize];
-    if first == 0 {
-        return v;
-    }
-    larger(v, starts[first])
 }
 
 // Where the next packet of row r starts: at its finish if its last packet has just finished, else not before its parent's
@@ -164,7 +57,7 @@ fn next_start(
 {
     match why {
         Why::Finished => finishes[r],
-        Why::Arrived => larger(finishes[r], virtuals[parents[r] as usize]),
+        Why::Arrived => words::larger(finishes[r], virtuals[parents[r] as usize]),
     }
 }
 
@@ -242,7 +135,9 @@ fn takes(
     requires { ⌜ Inside (now parents) ⌝ }
     requires { ⌜ Leeway most-choice (rows-of (now starts) (now finishes) (now virtuals) (now heads) (now «head_lengths») (now «head_classes»)) ⌝ }
     ensures { λ _. ⌜ ((rows : ℕ) (ids depths : List ℕ)
-        → v ≡ raised-of rows (now (parents .entry)) (now (starts .entry)) (now (virtuals .entry)) (now (heads .entry)) p
+        → v ≡ steps.raised (tree-with rows ids (now (parents .entry)) depths (now (shares .entry)))
+        (rows-of (now (starts .entry)) (now (finishes .entry)) (now (virtuals .entry))
+        (now (heads .entry)) (now («head_lengths» .entry)) (now («head_classes» .entry))) p
         → rows-of (now (starts .exit)) (now (finishes .exit)) (now (virtuals .exit))
         (now (heads .exit)) (now («head_lengths» .exit)) (now («head_classes» .exit))
         ≡ steps.takes (tree-with rows ids (now (parents .entry)) depths (now (shares .entry))) why p k
@@ -274,9 +169,98 @@ fn takes(
     }
 }
 
-// Row p chooses; where no child has a head it has none, and its tags stay.
+// Row r joins the heaps of its parent p, if it has a head.
+fn join(
+    starts: &RowLongs,
+    finishes: &RowLongs,
+    virtuals: &RowLongs,
+    heads: &RowWords,
+    roots: &mut Roots,
+    left: &mut Sides,
+    right: &mut Sides,
+    p: usize,
+    r: usize,
+)
+    requires { ⌜ p < most-rows ⌝ }
+    requires { ⌜ r < most-rows ⌝ }
+    ensures { λ _. ⌜ ((tree : Tree) (class-of : ℕ → ℕ) (lengths classes : List ℕ) → Sound tree → Kid tree p r
+        → Heaped tree class-of (rows-of (now (starts .entry)) (now (finishes .entry)) (now (virtuals .entry)) (now (heads .entry)) lengths classes) r
+        (forest (now (roots .entry)) (now (left .entry)) (now (right .entry)))
+        → Heaped tree class-of (rows-of (now (starts .entry)) (now (finishes .entry)) (now (virtuals .entry)) (now (heads .entry)) lengths classes) 0
+        (forest (now (roots .exit)) (now (left .exit)) (now (right .exit)))) ⌝ }
+{
+    if has_head(heads, r) {
+        waiting::add(
+            starts,
+            finishes,
+            heads,
+            roots,
+            left,
+            right,
+            p,
+            virtuals[p],
+            r as u8,
+        );
+    }
+}
+
+// Row r is filed with those that wait at its parent p. The list of all children needs no change for it.
+pub fn file(
+    way: Way,
+    starts: &RowLongs,
+    finishes: &RowLongs,
+    virtuals: &RowLongs,
+    heads: &RowWords,
+    roots: &mut Roots,
+    left: &mut Sides,
+    right: &mut Sides,
+    p: usize,
+    r: usize,
+)
+    requires { ⌜ p < most-rows ⌝ }
+    requires { ⌜ r < most-rows ⌝ }
+    ensures { λ _. ⌜ ((tree : Tree) (class-of : ℕ → ℕ) (lengths classes : List ℕ) → Sound tree → Kid tree p r
+        → Filed way tree class-of (rows-of (now (starts .entry)) (now (finishes .entry)) (now (virtuals .entry)) (now (heads .entry)) lengths classes) r
+        (forest (now (roots .entry)) (now (left .entry)) (now (right .entry)))
+        → Filed way tree class-of (rows-of (now (starts .entry)) (now (finishes .entry)) (now (virtuals .entry)) (now (heads .entry)) lengths classes) 0
+        (forest (now (roots .exit)) (now (left .exit)) (now (right .exit)))) ⌝ }
+{
+    match way {
+        Way::Looking => {}
+        Way::Heaps => join(starts, finishes, virtuals, heads, roots, left, right, p, r),
+    }
+}
+
+// What the choice of row p comes to, which has no head.
+fn find(
+    way: Way,
+    starts: &RowLongs,
+    finishes: &RowLongs,
+    virtuals: &RowLongs,
+    heads: &RowWords,
+    roots: &mut Roots,
+    left: &mut Sides,
+    right: &mut Sides,
+    p: usize,
+) -> Choice
+    requires { ⌜ ((tree : Tree) × (class-of : ℕ → ℕ) × (lengths : List ℕ) × (classes : List ℕ)
+        × Chooses way tree class-of (rows-of (now starts) (now finishes) (now virtuals) (now heads) lengths classes) p
+        (forest (now roots) (now left) (now right))) ⌝ }
+    ensures { λ r. ⌜ ((tree : Tree) (class-of : ℕ → ℕ) (lengths classes : List ℕ)
+        → Chooses way tree class-of (rows-of (now (starts .entry)) (now (finishes .entry)) (now (virtuals .entry)) (now (heads .entry)) lengths classes) p
+        (forest (now (roots .entry)) (now (left .entry)) (now (right .entry)))
+        → Found way tree class-of (rows-of (now (starts .entry)) (now (finishes .entry)) (now (virtuals .entry)) (now (heads .entry)) lengths classes) p
+        (r .child) (r .time) (forest (now (roots .exit)) (now (left .exit)) (now (right .exit)))) ⌝ }
+{
+    match way {
+        Way::Looking => looking::choose(starts, finishes, virtuals, heads, roots, right, p),
+        Way::Heaps => waiting::choose(starts, finishes, heads, roots, left, right, p, virtuals[p]),
+    }
+}
+
+// Row p, which has no head, chooses; where no child has a head it has none, and its tags stay.
 pub fn chooses(
-    rows: usize,
+    way: Way,
     parents: &RowWords,
     shares: &RowWords,
     starts: &mut RowLongs,
@@ -285,24 +269,41 @@ pub fn chooses(
     heads: &mut RowWords,
     head_lengths: &mut RowWords,
     head_classes: &mut RowWords,
+    roots: &mut Roots,
+    left: &mut Sides,
+    right: &mut Sides,
     why: Why,
-    p: u32,
+    p: usize,
 )
-    requires { ⌜ rows ≤ most-rows ⌝ }
-    requires { ⌜ p < most-rows ⌝ }
+    requires { ⌜ ((n : ℕ) × (ids : List ℕ) × (depths : List ℕ) × (class-of : ℕ → ℕ)
+        × Chooses way (tree-with n ids (now parents) depths (now shares)) class-of
+        (rows-of (now starts) (now finishes) (now virtuals) (now heads) (now «head_lengths») (now «head_classes»)) p
+        (forest (now roots) (now left) (now right))) ⌝ }
     requires { ⌜ Inside (now parents) ⌝ }
     requires { ⌜ Leeway most-choice (rows-of (now starts) (now finishes) (now virtuals) (now heads) (now «head_lengths») (now «head_classes»)) ⌝ }
-    ensures { λ _. ⌜ ((ids depths : List ℕ)
-        → rows-of (now (starts .exit)) (now (finishes .exit)) (now (virtuals .exit))
-        (now (heads .exit)) (now («head_lengths» .exit)) (now («head_classes» .exit))
-        ≡ steps.chooses (tree-with rows ids (now (parents .entry)) depths (now (shares .entry))) why p
-        (rows-of (now (starts .entry)) (now (finishes .entry)) (now (virtuals .entry))
-        (now (heads .entry)) (now («head_lengths» .entry)) (now («head_classes» .entry)))) ⌝ }
+    ensures { λ _. ⌜ ((n : ℕ) (ids depths : List ℕ) (class-of : ℕ → ℕ)
+        → Chooses way (tree-with n ids (now (parents .entry)) depths (now (shares .entry))) class-of
+        (rows-of (now (starts .entry)) (now (finishes .entry)) (now (virtuals .entry)) (now (heads .entry)) (now («head_lengths» .entry)) (now («head_classes» .entry))) p
+        (forest (now (roots .entry)) (now (left .entry)) (now (right .entry)))
+        → Chosen way (tree-with n ids (now (parents .entry)) depths (now (shares .entry))) class-of why p
+        (rows-of (now (starts .entry)) (now (finishes .entry)) (now (virtuals .entry)) (now (heads .entry)) (now («head_lengths» .entry)) (now («head_classes» .entry)))
+        (rows-of (now (starts .exit)) (now (finishes .exit)) (now (virtuals .exit)) (now (heads .exit)) (now («head_lengths» .exit)) (now («head_classes» .exit)))
+        (forest (now (roots .exit)) (now (left .exit)) (now (right .exit)))) ⌝ }
 {
-    let v = raised(rows, parents, starts, virtuals, heads, p);
-    let k = least(rows, parents, starts, finishes, heads, p, v);
-    if k == 0 {
-        set_head(heads, head_lengths, head_classes, p as usize, 0, 0, 0);
+    let choice = find(
+        way,
+        starts,
+        finishes,
+        virtuals,
+        heads,
+        roots,
+        left,
+        right,
+        p,
+    );
+    let child = choice.child;
+    if child == 0 {
+        set_head(heads, head_lengths, head_classes, p, 0, 0, 0);
     } else {
         takes(
             parents,
@@ -314,9 +315,9 @@ pub fn chooses(
             head_lengths,
             head_classes,
             why,
-            p as usize,
-            k,
-            v,
+            p,
+            child as usize,
+            choice.time,
         );
     }
 }

@@ -6,8 +6,8 @@ ghost use lib.ListN.{getD};
 ghost use Rattle.input.specs.Limits.{most-rows, most-depth};
 ghost use Rattle.input.specs.Classes.{Tree};
 ghost use Rattle.rules.specs.Box.{Box, head-class, head-length};
-ghost use Rattle.rules.specs.Steps.{along, arrival, departure};
-ghost use Rattle.counts.specs.Counts.{At-most, Paths, Counts, own, above, begun, changed, path-tree};
+ghost use Rattle.rules.specs.Steps.{arrival, departure};
+ghost use Rattle.counts.specs.Counts.{At-most, Paths, Counts, own, above, begun, changed};
 use input::RowLongs;
 use input::RowWords;
 
@@ -40,55 +40,23 @@ fn begin_at(
     }
 }
 
-// The backlogs of those rows on the path from k begin that hold nothing.
-fn begin(
+// Row r holds one packet more, and its backlog begins if it held nothing before.
+fn enter_at(
     parents: &RowWords,
-    depths: &RowWords,
     bytes: &RowLongs,
-    held: &RowWords,
+    held: &mut RowWords,
     since: &mut RowLongs,
     parent_since: &mut RowLongs,
-    k: usize,
+    r: usize,
 )
-    requires { ⌜ k < most-rows ⌝ ∗ ⌜ At-most (most-rows - 1) (now parents) ⌝ }
-    ensures { λ _. ⌜ now (since .exit) ≡
-        along (path-tree (now (parents .entry)) (now (depths .entry)))
-        (begun (now (held .entry)) (own (now (bytes .entry)))) k (now (since .entry)) ⌝ }
-    ensures { λ _. ⌜ now («parent_since» .exit) ≡
-        along (path-tree (now (parents .entry)) (now (depths .entry)))
-        (begun (now (held .entry)) (above (now (parents .entry)) (now (bytes .entry)))) k (now («parent_since» .entry)) ⌝ }
-{
-    let mut r = k;
-    let mut to_begin = entry(depths, k);
-    while to_begin > 0 {
-        begin_at(parents, bytes, held, since, parent_since, r);
-        r = entry(parents, r);
-        to_begin -= 1;
-    }
-    begin_at(parents, bytes, held, since, parent_since, r);
-}
-
-// Row r holds one packet more.
-fn hold_at(held: &mut RowWords, r: usize)
-    requires { ⌜ r < most-rows ⌝ ∗ ⌜ getD (now held) r 0 ≤ 2 ^ 31 + most-depth ⌝ }
+    requires { ⌜ r < most-rows ⌝ ∗ ⌜ At-most (most-rows - 1) (now parents) ⌝ ∗ ⌜ getD (now held) r 0 ≤ 2 ^ 31 + most-depth ⌝ }
     ensures { λ _. ⌜ now (held .exit) ≡ changed (λ i n. suc n) r (now (held .entry)) ⌝ }
+    ensures { λ _. ⌜ now (since .exit) ≡ changed (begun (now (held .entry)) (own (now (bytes .entry)))) r (now (since .entry)) ⌝ }
+    ensures { λ _. ⌜ now («parent_since» .exit) ≡
+        changed (begun (now (held .entry)) (above (now (parents .entry)) (now (bytes .entry)))) r (now («parent_since» .entry)) ⌝ }
 {
+    begin_at(parents, bytes, held, since, parent_since, r);
     held[r] += 1;
-}
-
-// Every row on the path from k holds one packet more.
-fn hold(parents: &RowWords, depths: &RowWords, held: &mut RowWords, k: usize)
-    requires { ⌜ k < most-rows ⌝ ∗ ⌜ At-most (most-rows - 1) (now parents) ⌝ ∗ ⌜ getD (now depths) k 0 ≤ most-depth ⌝ ∗ ⌜ At-most (2 ^ 31) (now held) ⌝ }
-    ensures { λ _. ⌜ now (held .exit) ≡ along (path-tree (now (parents .entry)) (now (depths .entry))) (λ r n. suc n) k (now (held .entry)) ⌝ }
-{
-    let mut r = k;
-    let mut to_hold = entry(depths, k);
-    while to_hold > 0 {
-        hold_at(held, r);
-        r = entry(parents, r);
-        to_hold -= 1;
-    }
-    hold_at(held, r);
 }
 
 // An arrival for class k, counted at every row on its path. Every parent is a row, so no index is out of range; with at most 8
@@ -108,8 +76,14 @@ pub fn enter(
         Counts box (now (bytes .entry)) (now (held .entry)) (now (since .entry)) (now («parent_since» .entry)) →
         Counts (arrival tree place k size box) (now (bytes .entry)) (now (held .exit)) (now (since .exit)) (now («parent_since» .exit))) ⌝ }
 {
-    begin(parents, depths, bytes, held, since, parent_since, k);
-    hold(parents, depths, held, k);
+    let mut r = k;
+    let mut to_enter = entry(depths, k);
+    while to_enter > 0 {
+        enter_at(parents, bytes, held, since, parent_since, r);
+        r = entry(parents, r);
+        to_enter -= 1;
+    }
+    enter_at(parents, bytes, held, since, parent_since, r);
 }
 
 // Row r has finished so many bytes more, and holds one packet less.

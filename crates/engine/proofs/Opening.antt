@@ -14,7 +14,11 @@ use Rattle.rules.specs.Steps.{after}
 use Rattle.rules.specs.Outcome.{over}
 use Rattle.laws.proofs.event.Outset.{replicate-at, zeros-at, empty-queue}
 use Rattle.laws.proofs.tree.Trees.{zeros-full}
-use Rattle.choosing.specs.Arrays.{rows-of}
+use Rattle.laws.specs.Named.{class-for}
+use Rattle.heaps.specs.Heaps.{Forest}
+use Rattle.looking.specs.Arrays.{rows-of}
+use Rattle.choosing.specs.declared.Way.{Way}
+use Rattle.choosing.specs.Filed.{Filed}
 use Rattle.laws.proofs.run.Sizes.{since-below, parent-since-below}
 use Rattle.counts.specs.Counts.{At-most}
 use Rattle.report.specs.Shown.{Shown}
@@ -50,13 +54,16 @@ cleared-again n lent used cleared rest is =
 
 -- ── before the first event ──
 
-pub fresh-now : (tree : Tree) (events : Events) (lent links : List ℕ) → links ≡ over (replicate (count events) 0) lent
-    → Now tree events 0 0
-    (rows-of (replicate most-rows 0) (replicate most-rows 0) (replicate most-rows 0) (replicate most-rows 0) (replicate most-rows 0) (replicate most-rows 0))
+pub fresh-now :
+    (way : Way) (tree : Tree) (events : Events) (f : Forest) (lent links : List ℕ) → Filed way tree (class-for tree events) (fresh .rows) 0 f
+    → links ≡ over (replicate (count events) 0) lent
+    → Now way tree events 0 0
+    (rows-of (replicate most-rows 0) (replicate most-rows 0) (replicate most-rows 0) (replicate most-rows 0) (replicate most-rows 0) (replicate most-rows 0)) f
     (replicate most-rows 0) (replicate most-rows 0) (replicate most-rows 0) (replicate most-rows 0) (replicate most-rows 0) links
 unfolding after fresh zeros Chain last-word
-fresh-now tree events lent links cleared =
+fresh-now way tree events f lent links filed cleared =
     record {
+      filed = filed;
       rows-are = refl;
       counts-are = record { bytes = refl; held = refl; since = refl; parent-since = refl };
       sent-are = refl;
@@ -89,8 +96,9 @@ past tree events fit =
     above zero inside = omega (arith, fit .root)
     above (suc r) inside = fit .accepted .sound .parent-row (suc r) (omega arith) inside
 
-module _ (tree : Tree) (events : Events) (sent : ℕ) (a : Rows) (bytes held since parent-since lasts links : List ℕ)
-    (now : Now tree events (count events) sent a bytes held since parent-since lasts links) where
+module _
+    {way : Way} {tree : Tree} {events : Events} {sent : ℕ} {a : Rows} {f : Forest} {bytes held since parent-since lasts links : List ℕ}
+    (now : Now way tree events (count events) sent a f bytes held since parent-since lasts links) where
   pub shown : Shown (after tree events (count events)) (a .starts) (a .finishes) (a .virtuals) bytes held
   shown =
       record {

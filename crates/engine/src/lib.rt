@@ -1,21 +1,47 @@
-// The run: refusals first, then event by event, then the results.
-ghost use Prim.Native.Nat.{_*_, _≤_};
+// The run, by either way to find the child that a row takes: refusals first, then event by event, then the results.
+ghost use mathlib.Core.Path.{_≡_};
+ghost use mathlib.Core.List.{List};
+ghost use Prim.Native.Nat.{ℕ, _*_, _≤_, _<_};
 ghost use lib.ListN as lists;
-ghost use Rattle.input.specs.Limits.{report-words};
-ghost use Rattle.input.specs.Lent.{events-of, tree-at};
+ghost use Rattle.input.specs.Limits.{most-rows, report-words};
+ghost use Rattle.input.specs.Lent.{events-of, tree-with, tree-at};
+ghost use Rattle.rules.specs.Box.{fresh};
 ghost use Rattle.rules.specs.Outcome.{Ran};
+ghost use Rattle.heaps.specs.Sizes.{most-heaps, most-members};
+ghost use Rattle.heaps.specs.Heaps.{forest};
+ghost use Rattle.choosing.specs.Filed.{Filed};
 ghost use Rattle.report.specs.Shown.{Sending};
 ghost use Rattle.events.specs.State.{Fit};
 ghost use Rattle.engine.specs.Served.{RowsFor, Served};
 ghost use Rattle.engine.specs.Run.{lent-of, left-of};
+use choosing::Way;
+use heaps::HEAPS;
+use heaps::MEMBERS;
+use heaps::Roots;
+use heaps::Sides;
 use input::Answer;
 use input::EventRows;
 use input::MOST_ROWS;
 use input::RowMarks;
 use input::RowWords;
 
+// Before the first event: to look at them, all children are listed; heaps are empty, as the arrays begin.
+fn open(way: Way, rows: usize, parents: &RowWords, roots: &mut Roots, right: &mut Sides)
+    requires { ⌜ (0 < rows) × (rows ≤ most-rows) ⌝ }
+    requires { ⌜ (now roots ≡ lists.replicate most-heaps 0) × (now right ≡ lists.replicate most-members 0) ⌝ }
+    ensures { λ _. ⌜ ((ids depths shares : List ℕ) (class-of : ℕ → ℕ)
+        → Filed way (tree-with rows ids (now (parents .entry)) depths shares) class-of (fresh .rows) 0
+        (forest (now (roots .exit)) (lists.replicate most-members 0) (now (right .exit)))) ⌝ }
+{
+    match way {
+        Way::Looking => looking::list_children(rows, parents, roots, right),
+        Way::Heaps => {}
+    }
+}
+
 // An input that is not refused: its events in turn, and then the results. So many packets have gone on the line.
 fn serve(
+    way: Way,
     identifiers: &[u32],
     classes: &[u32],
     lengths: &[u32],
@@ -50,12 +76,16 @@ fn serve(
     let mut since = [0u64; MOST_ROWS];
     let mut parent_since = [0u64; MOST_ROWS];
     let mut lasts = [0u32; MOST_ROWS];
+    let mut roots = [0u8; HEAPS];
+    let mut left = [0u8; MEMBERS];
+    let mut right = [0u8; MEMBERS];
+    open(way, identifiers.len(), parents, &mut roots, &mut right);
     queues::clear(working, classes.len());
     let mut sent = 0;
     let mut i = 0;
     while i < classes.len() {
         sent = events::step(
-            identifiers.len(),
+            way,
             parents,
             depths,
             shares,
@@ -66,6 +96,9 @@ fn serve(
             &mut heads,
             &mut head_lengths,
             &mut head_classes,
+            &mut roots,
+            &mut left,
+            &mut right,
             &mut bytes,
             &mut held,
             &mut since,
@@ -102,9 +135,10 @@ fn serve(
     sent
 }
 
-// The run. Of a refused input it answers the refusal and writes nothing; else it serves every event, and answers how many packets
-// went on the line.
+// The run by one of the ways. Of a refused input it answers the refusal and writes nothing; else it serves every event, and answers how
+// many packets went on the line.
 pub fn run(
+    way: Way,
     identifiers: &[u32],
     parent_identifiers: &[u32],
     shares: &[u32],
@@ -147,6 +181,7 @@ pub fn run(
     let senders = reading.senders;
     let event_rows = check.event_rows;
     let sent = serve(
+        way,
         identifiers,
         classes,
         lengths,

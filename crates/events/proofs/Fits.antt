@@ -14,6 +14,8 @@ use Rattle.laws.specs.History.{Accepted}
 use Rattle.laws.proofs.event.Turns.{fewer}
 use Rattle.laws.proofs.run.Sizes.{tags-below, heads-below, bytes-below, held-below}
 use Rattle.laws.proofs.run.Unwritten.{nothing-beyond}
+use Rattle.heaps.specs.Heaps.{Forest}
+use Rattle.choosing.specs.declared.Way.{Way}
 use Rattle.hierarchy.specs.Sizes.{Small}
 use Rattle.steps.specs.Ready.{Ready}
 use Rattle.events.specs.State.{Fit, Now}
@@ -56,10 +58,9 @@ module _ (tree : Tree) (events : Events) (fit : Fit tree events) (i : ℕ) (befo
       all-rows (held-by box) (2 ^ 31) (λ r inside. omega (arith, held-below tree events i r ok inside, fit .few))
       (λ r high. nothing-beyond tree events i ok r high .held-none)
 
-  ready : Ready (tree .rows) (tree .parents) (tree .depths) (box .rows) (box .bytes) (box .held)
+  ready : Ready (tree .parents) (tree .depths) (box .rows) (box .bytes) (box .held)
   ready =
       record {
-        few = fit .accepted .sound .few-rows;
         inside = fit .inside;
         shallow = fit .shallow;
         small = small;
@@ -68,7 +69,8 @@ module _ (tree : Tree) (events : Events) (fit : Fit tree events) (i : ℕ) (befo
       }
 
   -- so it is of arrays that are the box's
-  pub ready-now : (sent : ℕ) (a : Rows) (bytes held since parent-since lasts links : List ℕ) → Now tree events i sent a bytes held since parent-since lasts links
-      → Ready (tree .rows) (tree .parents) (tree .depths) a bytes held
-  ready-now sent a bytes held since parent-since lasts links now =
+  pub ready-now :
+      {way : Way} {sent : ℕ} {a : Rows} {f : Forest} {bytes held since parent-since lasts links : List ℕ}
+      → Now way tree events i sent a f bytes held since parent-since lasts links → Ready (tree .parents) (tree .depths) a bytes held
+  ready-now now =
       rw (← now .rows-are, ← now .counts-are .bytes, ← now .counts-are .held) ready

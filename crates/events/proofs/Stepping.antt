@@ -3,45 +3,63 @@
 use Prim.Native.Nat.{ℕ, suc, _+_, _-_, _≤_, _<_}
 use mathlib.Core.Path.{_≡_, refl, sym, ap, _∙_}
 use mathlib.Core.Logic.{_≢_, ⊎-elim}
-use mathlib.Core.Bool.{true}
+use mathlib.Core.Bool.{Bool, true, false, cond}
 use mathlib.Core.List.{List, [], _∷_, _++_, tail}
 use native.Mathlib.Omega.{arith}
-use lib.Dec.{eqb}
+use lib.Dec.{eqb, lit<}
 use native.Mathlib.Numerals.{add-one}
 use lib.ListN.{length, getD, set, take, length-append}
 use lib.Seq.{sets}
 use Rattle.input.specs.declared.Event.the-variants.{Finish}
 use Rattle.input.specs.Limits.{most-rows, most-bytes, most-events}
-use Rattle.input.specs.Classes.{Tree, row-of}
+use Rattle.input.specs.Classes.{Tree, depth, row-of}
 use Rattle.input.specs.Events.{Events, count, class-word, length-word, event}
 use Rattle.input.specs.EventRows.{row-for}
 use Rattle.rules.specs.Box.{Packet, Rows, Box, head, head-class, queue-of, line-class, left}
-use Rattle.rules.specs.Steps.{leaves, arrival, departure, step, after}
+use Rattle.rules.specs.declared.Why.the-variants.{Finished, Arrived}
+use Rattle.rules.specs.Steps.{arrives as goes-in}
+use Rattle.rules.specs.Steps.{new-head, up, leaves, renews, goes-on, arrival, departure, step, after}
 use Rattle.input.specs.Refusals.{meeting-refused}
 use Rattle.rules.specs.Refused.{idle, event-refused}
 use Rattle.laws.specs.Sound.{Sound, Sender, ArrivalFits}
-use Rattle.laws.specs.Moves.{SameHead}
+use Rattle.laws.specs.Moves.{Full, Settled, SameHead}
 use Rattle.laws.specs.Kept.{Kept, HeadOf}
-use Rattle.laws.proofs.level.Heads.{has-true}
+use Rattle.laws.specs.Named.{class-for}
+use Rattle.laws.proofs.level.Heads.{has-true, has-false}
 use Rattle.laws.proofs.tree.Trees.{arrival-fits, finish-fits}
 use Rattle.laws.proofs.event.Turns.{Arrives, met, fewer}
-use Rattle.laws.proofs.path.DeparturePath.{leaves-idle}
+use Rattle.laws.proofs.tree.Paths.{self-within}
+use Rattle.laws.proofs.path.DeparturePath.{leaves-on, leaves-idle}
+use Rattle.laws.proofs.path.Naming.{own-packet}
 use Rattle.laws.proofs.event.OneEvent.{line-sender, left-line}
 use Rattle.laws.proofs.event.Keeping.{class-head}
 use Rattle.laws.proofs.run.Sizes.{few, small-kept}
+use Rattle.heaps.specs.Heaps.{Forest}
+use Rattle.choosing.specs.declared.Way.{Way}
+use Rattle.looking.specs.Arrays.{has-head-of}
+use Rattle.looking.proofs.Parts.{head-part}
+use Rattle.choosing.specs.Filed.{Filed}
+use Rattle.choosing.specs.Sizes.{Leeway, most-charge}
+use Rattle.choosing.proofs.Ticks.{less-leeway}
+use Rattle.choosing.proofs.Filing.{headed, set-aside, line-left}
+use Rattle.hierarchy.specs.Sizes.{most-climb}
 use Rattle.hierarchy.specs.Next.{next-of}
+use Rattle.hierarchy.specs.Climbing.{Climbs, Settles, front-row, front-rows}
+use Rattle.hierarchy.proofs.Enough.{small-leeway, new-head-leeway}
+use Rattle.hierarchy.proofs.Later.{renews-first, renews-leeway}
 use Rattle.counts.specs.Counts.{Counts}
 use Rattle.queues.specs.Words.{followed, shortened, length-of, sent-word}
 use Rattle.steps.specs.Ready.{Ready}
+use Rattle.steps.proofs.Leaving.{leaves-small}
 use Rattle.events.specs.Links.{first-word, Chain}
-use Rattle.events.specs.State.{Coming, Gone}
+use Rattle.events.specs.State.{Coming, Fronted}
 use Rattle.events.proofs.Fits.{ready-now}
 use Rattle.events.proofs.Links.{followed-beyond, last-before, first-before, chain-first, chain-length, joined, first-left}
 use Rattle.events.proofs.Sending.{sent-arrived, sent-finished, order-most, order-more, sent-word-most}
 
 module _
-    {tree : Tree} {events : Events} {i row sent-before : ℕ} {a : Rows} {bytes held since parent-since lasts links order : List ℕ}
-    (coming : Coming tree events i row sent-before a bytes held since parent-since lasts links order) where
+    {way : Way} {tree : Tree} {events : Events} {i row sent-before : ℕ} {a : Rows} {f : Forest} {bytes held since parent-since lasts links order : List ℕ}
+    (coming : Coming way tree events i row sent-before a f bytes held since parent-since lasts links order) where
   abbrev box : Box
   box = after tree events i
 
@@ -55,8 +73,8 @@ module _
   unfolding event-refused
   not-refused = coming .fit .accepted .each i (coming .inside)
 
-  pub ready : Ready (tree .rows) (tree .parents) (tree .depths) a bytes held
-  ready = ready-now tree events (coming .fit) i (omega (arith, coming .inside)) _ _ _ _ _ _ _ _ (coming .now)
+  pub ready : Ready (tree .parents) (tree .depths) a bytes held
+  ready = ready-now tree events (coming .fit) i (omega (arith, coming .inside)) (coming .now)
 
   -- how many packets have gone on the line: there is room for one more
   pub room : sent-before < length order
@@ -100,6 +118,64 @@ module _
     pub few-rows : row < most-rows
     few-rows = omega (arith, sender .inside, sound .few-rows)
 
+    abbrev front : Rows
+    front = front-rows tree i row (length-word events i) a
+
+    abbrev from : ℕ
+    from = front-row (a .heads) row
+
+    pub few-from : from < most-rows
+    unfolding front-row
+    few-from = go (has-head-of (a .heads) row)
+      where
+        go : (b : Bool) → cond b 0 row < most-rows
+        go true = omega arith
+        go false = few-rows
+
+    -- what an arrival leaves is what the way up leaves from there
+    up-arrival : up (depth tree from) tree Arrived from front ≡ arrival tree i row (length-word events i) box .rows
+    unfolding arrival goes-in up front-rows front-row
+    up-arrival = rw (coming .now .rows-are, head-part a row) (go (has-head-of (a .heads) row))
+      where
+        first : Rows
+        first = new-head tree Arrived row (suc i) (length-word events i) row a
+
+        go :
+            (b : Bool)
+            → up (depth tree (cond b 0 row)) tree Arrived (cond b 0 row) (cond b a first) ≡ cond b a (up (depth tree row) tree Arrived row first)
+        go true = rw (sound .root-depth)
+        go false = refl
+
+    pub front-climbs : Climbs way tree (class-for tree events) front from (depth tree from) f
+    unfolding front-rows front-row
+    front-climbs = go (has-head-of (a .heads) row) refl
+      where
+        go :
+            (b : Bool) → has-head-of (a .heads) row ≡ b
+            → Climbs way tree (class-for tree events) (cond b a (new-head tree Arrived row (suc i) (length-word events i) row a)) (cond b 0 row)
+            (depth tree (cond b 0 row)) f
+        go true has = record { sound = sound; inside = sound .some-rows; deep = refl; filed = coming .now .filed }
+        go false has =
+            record {
+              sound = sound;
+              inside = sender .inside;
+              deep = refl;
+              filed =
+                  headed way tree sound (class-for tree events) Arrived row (suc i) (length-word events i) row a f sender (has-false a row (head-part a row ∙ has))
+                  (own-packet tree sound (class-for tree events) row (suc i) sender (sym (row-arrives is))) (coming .now .filed);
+            }
+
+    pub front-leeway : Leeway most-climb front
+    unfolding front-rows
+    front-leeway = go (has-head-of (a .heads) row)
+      where
+        enough : Leeway (most-climb + most-charge) a
+        enough = small-leeway (most-climb + most-charge) a (lit< tt) (ready .small)
+
+        go : (b : Bool) → Leeway most-climb (cond b a (new-head tree Arrived row (suc i) (length-word events i) row a))
+        go true = less-leeway (most-climb + most-charge) most-climb a (omega arith) enough
+        go false = new-head-leeway most-climb tree a enough Arrived row (suc i) (length-word events i) row (fits is .few-bytes)
+
     pub few-bytes : length-word events i ≤ most-bytes
     few-bytes = fits is .few-bytes
 
@@ -123,29 +199,34 @@ module _
     arrival-sent b rows = rw next-arrival (ap (λ (xs : List ℕ). box .order ++ xs) (sent-arrived (box .rows) _ ∙ rw (rows, coming .now .rows-are)))
 
     pub arrived :
-        (sent-after : ℕ) (b : Rows) (held′ since′ parent-since′ lasts′ links′ order′ : List ℕ)
-        → arrival tree i row (length-word events i) box .rows ≡ b
+        (from′ : ℕ) (b : Rows) (held′ since′ parent-since′ lasts′ links′ : List ℕ) → from′ ≡ from → b ≡ front
         → Counts (arrival tree i row (length-word events i) box) bytes held′ since′ parent-since′
         → lasts′ ≡ set lasts row (i + 1) → links′ ≡ followed links (getD lasts row 0) (i + 1)
-        → order′ ≡ sets order sent-before (on-line b) → sent-after ≡ sent-before + length (on-line b)
-        → Gone tree events i sent-after b bytes held′ since′ parent-since′ lasts′ links links′ order order′
-    arrived sent-after b held′ since′ parent-since′ lasts′ links′ order′ rows counts lasts-is links-is order-is sent-is =
+        → Fronted way tree events i sent-before f order Arrived from′ (depth tree from′) (eqb (head a 0) 0) b bytes held′ since′ parent-since′ lasts′ links links′
+    arrived from′ b held′ since′ parent-since′ lasts′ links′ begun fronted counts lasts-is links-is =
         record {
-          now =
+          climbs = rw (begun, fronted) front-climbs;
+          leeway = rw fronted front-leeway;
+          over = λ end g sent-after order′ settles order-is sent-is.
+              let rows : arrival tree i row (length-word events i) box .rows ≡ end = sym (settles .rows-are ∙ rw (begun, fronted) up-arrival) in
               record {
-                rows-are = rw next-arrival rows;
-                counts-are = rw next-arrival counts;
-                sent-are = rw (arrival-sent b rows, length-append, sent-is, coming .now .sent-are);
-                linked =
-                    rw (next-arrival, lasts-is, links-is, add-one)
-                    (joined tree sound events few i box keeps (coming .inside) lasts links (coming .now .linked) row (length-word events i) sender
-                    (sym (row-arrives is)) refl (coming .links-room));
+                now =
+                    record {
+                      filed = settles .filed;
+                      rows-are = rw next-arrival rows;
+                      counts-are = rw next-arrival counts;
+                      sent-are = rw (arrival-sent end rows, length-append, sent-is, coming .now .sent-are);
+                      linked =
+                          rw (next-arrival, lasts-is, links-is, add-one)
+                          (joined tree sound events few i box keeps (coming .inside) lasts links (coming .now .linked) row (length-word events i) sender
+                          (sym (row-arrives is)) refl (coming .links-room));
+                    };
+                links-rest = rw links-is (followed-beyond links (getD lasts row 0) (i + 1) (count events) (omega (arith, last-known, coming .inside)));
+                order-on =
+                    λ lent same was.
+                    rw (arrival-sent end rows)
+                    (order-more (box .order) (on-line end) lent order order′ sent-before (coming .now .sent-are) room same (sent-word-most _ _) was order-is);
               };
-          links-rest = rw links-is (followed-beyond links (getD lasts row 0) (i + 1) (count events) (omega (arith, last-known, coming .inside)));
-          order-on =
-              λ lent same was.
-              rw (arrival-sent b rows)
-              (order-more (box .order) (on-line b) lent order order′ sent-before (coming .now .sent-are) room same (sent-word-most _ _) was order-is);
         }
 
   -- ── a finish ──
@@ -194,6 +275,12 @@ module _
     pub class-few : head-class a 0 < most-rows
     class-few = omega (arith, class-is, line-sends .inside, sound .few-rows)
 
+    full : Full a
+    full = rw (← coming .now .rows-are) (keeps .rows-full)
+
+    settled : Settled tree a
+    settled = rw (← coming .now .rows-are) (keeps .settled)
+
     pub head-some : 0 < head a 0
     head-some = omega (arith, head-is)
 
@@ -232,29 +319,78 @@ module _
           rw next-finish
           (ap (λ (xs : List ℕ). box .order ++ xs) (sent-finished (leaves tree (line-class box) (box .rows)) _ none ∙ rw rows))
 
+      -- the packet leaves every row on its path, and then its class goes on with the next
+      abbrev gone : Rows
+      gone = leaves tree (line-class box) a
+
+      abbrev onward : Rows
+      onward = renews tree (line-class box) (left box) gone
+
+      up-departure : up (depth tree (line-class box)) tree Finished (line-class box) onward ≡ departure tree box .rows
+      unfolding departure goes-on
+      up-departure = rw (coming .now .rows-are)
+
+      none-left : head gone (line-class box) ≡ 0
+      none-left =
+          leaves-on tree sound a full (line-class box) (line-sends .inside) (line-class box) (line-sends .inside) (self-within tree sound (line-class box)) .none
+
+      gone-filed : Filed way tree (class-for tree events) gone 0 f
+      gone-filed =
+          rw (← class-is) (line-left way tree sound (class-for tree events) a f settled (λ e. busy (rw (coming .now .rows-are) e)) (coming .now .filed))
+
+      onward-filed : (later : List Packet) → Chain tree events links (line-class box) later → Filed way tree (class-for tree events) (renews tree (line-class box) later gone) (line-class box) f
+      unfolding renews Chain
+      onward-filed [] linked = set-aside way tree sound (class-for tree events) gone (line-class box) f none-left gone-filed
+      onward-filed (packet ∷ later) linked =
+          headed way tree sound (class-for tree events) Finished (line-class box) (suc (packet .place)) (packet .length) (line-class box) gone f line-sends none-left
+          (own-packet tree sound (class-for tree events) (line-class box) (suc (packet .place)) line-sends (linked .1)) gone-filed
+
+      pub onward-climbs : Climbs way tree (class-for tree events) onward (line-class box) (depth tree (line-class box)) f
+      unfolding Chain
+      onward-climbs =
+          record {
+            sound = sound;
+            inside = line-sends .inside;
+            deep = refl;
+            filed = rw rest (onward-filed (line .later) (chain .3));
+          }
+
+      onward-leeway : Leeway most-climb onward
+      onward-leeway =
+          let small = leaves-small tree (line-class box) a (ready .small) in
+          let enough = small-leeway (most-climb + most-charge) gone (lit< tt) small in
+          rw (renews-first, next-packet) (renews-leeway tree (line-class box) gone most-climb next (length-of (events .lengths) next) next-length enough)
+
       pub finished :
-          (sent-after class : ℕ) (b : Rows) (bytes′ held′ lasts′ order′ : List ℕ)
-          → departure tree box .rows ≡ b
+          (class class′ : ℕ) (b : Rows) (bytes′ held′ lasts′ : List ℕ) → class′ ≡ head-class a 0 → b ≡ renews tree class′ (left box) (leaves tree class′ a)
           → Counts (departure tree box) bytes′ held′ since parent-since
           → class ≡ head-class a 0 → lasts′ ≡ shortened lasts class next
-          → order′ ≡ sets order sent-before (sent-word true (head b 0)) → sent-after ≡ sent-before + length (sent-word true (head b 0))
-          → Gone tree events i sent-after b bytes′ held′ since parent-since lasts′ links links order order′
-      finished sent-after class b bytes′ held′ lasts′ order′ rows counts class-read lasts-is order-is sent-is =
+          → Fronted way tree events i sent-before f order Finished class′ (depth tree class′) true b bytes′ held′ since parent-since lasts′ links links
+      finished class class′ b bytes′ held′ lasts′ begun fronted counts class-read lasts-is =
+          let at : class′ ≡ line-class box = begun ∙ class-is in
+          let on : b ≡ onward = fronted ∙ rw at in
           record {
-            now =
+            climbs = rw (at, on) onward-climbs;
+            leeway = rw on onward-leeway;
+            over = λ end g sent-after order′ settles order-is sent-is.
+                let rows : departure tree box .rows ≡ end = sym (settles .rows-are ∙ rw (at, on) up-departure) in
                 record {
-                  rows-are = rw next-finish rows;
-                  counts-are = rw next-finish counts;
-                  sent-are = rw (departure-sent b rows, length-append, sent-is, coming .now .sent-are);
-                  linked =
-                      rw (next-finish, lasts-is, class-read, next-is, class-is)
-                      (first-left tree sound events few i box keeps (coming .inside) lasts links (coming .now .linked) (line .first) (line .later) line-sends
-                      (line .queued));
+                  now =
+                      record {
+                        filed = settles .filed;
+                        rows-are = rw next-finish rows;
+                        counts-are = rw next-finish counts;
+                        sent-are = rw (departure-sent end rows, length-append, sent-is, coming .now .sent-are);
+                        linked =
+                            rw (next-finish, lasts-is, class-read, next-is, class-is)
+                            (first-left tree sound events few i box keeps (coming .inside) lasts links (coming .now .linked) (line .first) (line .later) line-sends
+                            (line .queued));
+                      };
+                  links-rest = refl;
+                  order-on =
+                      λ lent same was.
+                      rw (departure-sent end rows)
+                      (order-more (box .order) (sent-word true (head end 0)) lent order order′ sent-before (coming .now .sent-are) room same (sent-word-most _ _) was
+                      order-is);
                 };
-            links-rest = refl;
-            order-on =
-                λ lent same was.
-                rw (departure-sent b rows)
-                (order-more (box .order) (sent-word true (head b 0)) lent order order′ sent-before (coming .now .sent-are) room same (sent-word-most _ _) was
-                order-is);
           }

@@ -2,6 +2,7 @@
 // the lags; or says what cannot be read; or, to standard error, what a refusal names and how to mend it.
 mod results;
 
+use choosing::Way;
 use files::first;
 use files::load;
 use input::Answer;
@@ -92,6 +93,7 @@ fn replay<'a>(
     let mut lags = [0i64; HELD_ROWS];
     let mut working = [0u32; MOST_EVENTS];
     let answer = engine::run(
+        Way::Heaps,
         identifiers,
         parents,
         shares,

@@ -1,4 +1,4 @@
--- The line's packet leaves: lengths stay small, and the parts of a departure's rows make the whole.
+-- The line's packet leaves: tags and lengths stay small.
 -- Assumes nothing.
 use Prim.Native.Nat.{ℕ, zero, suc, _≤_}
 use mathlib.Core.Path.{_≡_, sym, subst}
@@ -7,8 +7,8 @@ use native.Mathlib.Omega.{arith}
 use lib.ListN.{getD, set}
 use Rattle.input.specs.Limits.{most-bytes}
 use Rattle.input.specs.Classes.{Tree, parent, depth}
-use Rattle.rules.specs.Box.{Rows, Box, head-class, left}
-use Rattle.rules.specs.Steps.{on-path, along, leaves, goes-on, departure}
+use Rattle.rules.specs.Box.{Rows}
+use Rattle.rules.specs.Steps.{on-path, along, leaves}
 use Rattle.hierarchy.specs.Sizes.{Small}
 use Rattle.words.proofs.Entries.{entry-set}
 
@@ -18,7 +18,7 @@ path-most zero m tree r xs most i = entry-set (λ (n : ℕ). n ≤ m) xs r 0 i (
 path-most (suc d) m tree r xs most i =
     path-most d m tree (parent tree r) (set xs r 0) (λ j. entry-set (λ (n : ℕ). n ≤ m) xs r 0 j (omega arith) (most j)) i
 
-leaves-small : (tree : Tree) (k : ℕ) (a : Rows) → Small a → Small (leaves tree k a)
+pub leaves-small : (tree : Tree) (k : ℕ) (a : Rows) → Small a → Small (leaves tree k a)
 unfolding leaves along
 leaves-small tree k a small =
     record {
@@ -30,9 +30,3 @@ leaves-small tree k a small =
 
 pub left-small : (tree : Tree) (k : ℕ) (a idle : Rows) → Small a → idle ≡ leaves tree k a → Small idle
 left-small tree k a idle small is = subst Small (sym is) (leaves-small tree k a small)
-
-pub departure-rows :
-    (tree : Tree) (box : Box) (a idle now : Rows) (k : ℕ) → box .rows ≡ a → k ≡ head-class a 0 → idle ≡ leaves tree k a
-    → now ≡ goes-on tree k (left box) idle → departure tree box .rows ≡ now
-unfolding departure
-departure-rows tree box a idle now k are class gone on = rw (on, gone, class, ← are)

@@ -2,14 +2,13 @@
 use Prim.Native.Nat.{ℕ, _≤_, _^_}
 use mathlib.Core.List.{List}
 use lib.ListN.{getD}
-use Rattle.input.specs.Limits.{most-rows, most-depth}
+use Rattle.input.specs.Limits.{most-depth}
 use Rattle.rules.specs.Box.{Rows}
-use Rattle.choosing.specs.Arrays.{Inside}
+use Rattle.looking.specs.Arrays.{Inside}
 use Rattle.hierarchy.specs.Sizes.{Small}
 use Rattle.counts.specs.Counts.{At-most}
 
-pub record Ready (rows : ℕ) (parents depths : List ℕ) (a : Rows) (bytes held : List ℕ) : Type 0 where
-  pub few : rows ≤ most-rows
+pub record Ready (parents depths : List ℕ) (a : Rows) (bytes held : List ℕ) : Type 0 where
   pub inside : Inside parents
   pub shallow : (r : ℕ) → getD depths r 0 ≤ most-depth
   pub small : Small a

@@ -1,73 +1,73 @@
--- `choosing::chooses` meets its contract: the two scans find the child that the definition picks.
+-- `choosing::chooses` meets its contract: what is found is what the definition picks, and all is filed as it is to be then.
 -- Assumes nothing.
-use Prim.Native.Nat.{_+_, _<_, _^_}
+use Prim.Native.Nat.{ℕ, _+_, _<_, _^_}
+use mathlib.Core.List.{List}
 use native.Mathlib.Omega.{arith}
-use borrow.Author.Tests.{eq-eqb, ne-eqb}
 use borrow.Author.Needs.{needs}
 use Rattle.input.specs.Limits.{most-rows}
-use Rattle.rules.specs.Steps.{chooses, with-head}
+use Rattle.input.specs.Classes.{Tree}
+use Rattle.input.specs.Lent.{tree-with}
+use Rattle.rules.specs.Box.{Rows}
+use Rattle.rules.specs.Steps.{with-head}
+use Rattle.looking.specs.Arrays.{rows-of}
 use Rattle.choosing.specs.Sizes.{most-choice}
-use Rattle.choosing.proofs.Ticks.{raised-fits}
-use Rattle.choosing.proofs.Scan.{least-below}
-use Rattle.choosing.proofs.Parts.{raised-part, pick-part}
+use Rattle.choosing.proofs.Taking.{none-taken, one-taken}
+use Rattle.choosing.proofs.Ticks.{raised-leeway}
 use Rattle.choosing.proofs.chooses.Statement.{statement}
 use Rattle.choosing.proofs.chooses.Tie as tie
 
-raised-requires : tie.Need-raised-requires
-raised-requires c κs =
-    let known = c .before .before .before .pre in
-    (known .0, (known .1 .0, λ i. omega (arith, known .1 .1 .1 .starts i)))
+-- what is found, of any tree that p may choose in
+module _ (s : tie.Start) where
+  abbrev rows : Rows
+  rows =
+      rows-of (s .args .starts .now) (s .args .finishes .now) (s .args .virtuals .now) (s .args .heads .now) (s .args .head-lengths .now)
+      (s .args .head-classes .now)
 
-least-requires : tie.Need-least-requires
-least-requires c κs = search needs
+  abbrev tree : ℕ → List ℕ → List ℕ → Tree
+  tree n ids depths = tree-with n ids (s .args .parents .now) depths (s .args .shares .now)
+
+find-requires : tie.Need-find-requires
+find-requires c κs =
+    let s = c .before .before .before .before .before .before .before in
+    let known = s .pre .0 in
+    (tree s (known .0) (known .1) (known .2), known .3, _, _, known .4)
 
 set-head-requires : tie.Need-set-head-requires
 set-head-requires c κs = search needs
 
+cast-takes : tie.Need-cast-takes
+cast-takes c = search needs
+
 takes-requires : tie.Need-takes-requires
 takes-requires c κs =
-    let picked = c .before .before .before .before .before .before .before in
-    let looked = picked .before .before .before .before in
-    let known = looked .before .before .before .before .pre in
-    let child : picked .least .result < most-rows = rw (picked .least .ensures) (least-below _ _ _ _ most-rows (omega arith) (known .0)) in
-    let fits : looked .raised .result + most-choice < 2 ^ 64 = rw (looked .raised .ensures) (raised-fits (known .1 .1 .1) _ _ _) in
-    (known .1 .0, (child, (fits, (known .1 .1 .0, known .1 .1 .1))))
+    let looked = c .before .before .before .before .before .before .before in
+    let s = looked .before .before .before .before .before .before .before .before in
+    let known = s .pre .0 in
+    let may = known .4 in
+    let found = looked .find .ensures (tree s (known .0) (known .1) (known .2)) (known .3) _ _ may in
+    let few : s .args .p < most-rows = omega (arith, may .inner .inside, may .sound .few-rows) in
+    let fits : looked .find .result .time + most-choice < 2 ^ 64 =
+    rw (found .time-is) (raised-leeway most-choice (tree s (known .0) (known .1) (known .2)) (rows s) (s .pre .1 .1) (s .args .p)) in
+    (few, (omega arith, (fits, (s .pre .1 .0, s .pre .1 .1))))
 
 returns : tie.Need-returns
-unfolding chooses with-head
-returns c =
-    λ ids depths.
+unfolding with-head
+returns c n ids depths class-of old =
     let branch = c .before .before .before .before in
-    let picked = branch .before in
-    let looked = picked .before .before .before .before in
-    rw (
-      pick-part,
-      raised-part,
-      ← looked .raised .ensures,
-      ← picked .least .ensures,
-      eq-eqb _ _ (branch .if1 .taken),
-      c .set-head .ensures .0,
-      c .set-head .ensures .1 .0,
-      c .set-head .ensures .1 .1,
-    )
+    let looked = branch .before in
+    let s = looked .before .before .before .before .before .before .before .before in
+    let found = looked .find .ensures (tree s n ids depths) class-of _ _ old in
+    none-taken found (s .args .why) _ (branch .if1 .taken) (rw (c .set-head .ensures .0, c .set-head .ensures .1 .0, c .set-head .ensures .1 .1))
 
 returns-2 : tie.Need-returns-2
-unfolding chooses
-returns-2 c =
-    λ ids depths.
+returns-2 c n ids depths class-of old =
     let branch = c .before .before .before .before .before .before .before in
-    let picked = branch .before in
-    let looked = picked .before .before .before .before in
-    rw (pick-part, raised-part, ← looked .raised .ensures, ← picked .least .ensures, ne-eqb _ _ (branch .if1 .left))
-    (c .takes .ensures _ ids depths (looked .raised .ensures))
+    let looked = branch .before in
+    let s = looked .before .before .before .before .before .before .before .before in
+    let found = looked .find .ensures (tree s n ids depths) class-of _ _ old in
+    one-taken found (s .args .why) _ (branch .if1 .left) (c .takes .ensures n ids depths (found .time-is))
 
 pub chooses-spec : {M : Type 1} → statement M
 chooses-spec =
     tie.close
-    (tie.spec
-    raised-requires
-    least-requires
-    set-head-requires
-    takes-requires
-    returns
-    returns-2)
+    (tie.spec find-requires set-head-requires cast-takes takes-requires returns returns-2)

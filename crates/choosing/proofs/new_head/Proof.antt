@@ -3,7 +3,7 @@
 use borrow.Author.Needs.{needs}
 use Rattle.rules.specs.Steps.{new-head, charged, with-head}
 use Rattle.choosing.proofs.Ticks.{charged-fits}
-use Rattle.choosing.proofs.Parts.{next-start-part}
+use Rattle.looking.proofs.Parts.{next-start-part}
 use Rattle.choosing.proofs.new_head.Statement.{statement}
 use Rattle.choosing.proofs.new_head.Tie as tie
 

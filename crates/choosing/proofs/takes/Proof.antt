@@ -7,7 +7,6 @@ use borrow.Author.Needs.{needs}
 use Rattle.rules.specs.Steps.{takes, with-virtual, with-head}
 use Rattle.choosing.specs.Sizes.{most-charge}
 use Rattle.choosing.proofs.Ticks.{passed-leeway}
-use Rattle.choosing.proofs.Parts.{raised-part}
 use Rattle.choosing.proofs.takes.Statement.{statement}
 use Rattle.choosing.proofs.takes.Tie as tie
 
@@ -67,14 +66,14 @@ unfolding takes with-virtual with-head
 returns c =
     λ rows ids depths same.
     let branch = c .before .before .before .before in
-    rw (eq-eqb _ _ (branch .if1 .taken), raised-part, ← same, c .set-head .ensures .0, c .set-head .ensures .1 .0, c .set-head .ensures .1 .1)
+    rw (eq-eqb _ _ (branch .if1 .taken), ← same, c .set-head .ensures .0, c .set-head .ensures .1 .0, c .set-head .ensures .1 .1)
 
 returns-2 : tie.Need-returns-2
 unfolding takes with-virtual
 returns-2 c =
     λ rows ids depths same.
     let branch = c .before .before .before .before .before .before .before in
-    rw (ne-eqb _ _ (branch .if1 .left), raised-part, ← same) (c .new-head .ensures rows ids depths)
+    rw (ne-eqb _ _ (branch .if1 .left), ← same) (c .new-head .ensures rows ids depths)
 
 pub takes-spec : {M : Type 1} → statement M
 takes-spec =

@@ -11,7 +11,8 @@ use Rattle.input.specs.Events.{Events, count}
 use Rattle.rules.specs.Box.{Rows, Box}
 use Rattle.rules.specs.Steps.{after}
 use Rattle.rules.specs.Outcome.{over}
-use Rattle.choosing.specs.Arrays.{rows-of}
+use Rattle.heaps.specs.Heaps.{forest}
+use Rattle.looking.specs.Arrays.{rows-of}
 use Rattle.input.specs.Lent.{events-of, tree-at}
 use Rattle.events.specs.State.{Fit, Now, Coming}
 use Rattle.engine.specs.Served.{RowsFor}
@@ -20,17 +21,17 @@ use Rattle.engine.proofs.serve.Statement.{statement}
 use Rattle.engine.proofs.serve.Tie as tie
 
 abbrev Inv-loop : tie.InvT-loop
-Inv-loop identifiers classes lengths parents depths shares senders event-rows order₀ report lags working₀ starts₀ finishes₀ virtuals₀ heads₀ head-lengths₀ head-classes₀ bytes₀ held₀ since₀ parent-since₀ lasts₀ sent₀ i₀ order working starts finishes virtuals heads head-lengths head-classes bytes held since parent-since lasts sent i =
+Inv-loop way identifiers classes lengths parents depths shares senders event-rows order₀ report lags working₀ starts₀ finishes₀ virtuals₀ heads₀ head-lengths₀ head-classes₀ bytes₀ held₀ since₀ parent-since₀ lasts₀ roots₀ left₀ right₀ sent₀ i₀ order working starts finishes virtuals heads head-lengths head-classes bytes held since parent-since lasts roots left right sent i =
     (i ≤ length classes)
     × (length order ≡ length order₀)
     × (length working ≡ length working₀)
-    × Now (tree-at identifiers parents depths shares) (events-of classes lengths) i sent (rows-of starts finishes virtuals heads head-lengths head-classes)
-    bytes held since parent-since lasts working
+    × Now way (tree-at identifiers parents depths shares) (events-of classes lengths) i sent
+    (rows-of starts finishes virtuals heads head-lengths head-classes) (forest roots left right) bytes held since parent-since lasts working
     × (order ≡ over (after (tree-at identifiers parents depths shares) (events-of classes lengths) i .order) order₀)
     × (drop (length classes) working ≡ drop (length classes) working₀)
 
 abbrev μ-loop : tie.MeasureT-loop
-μ-loop identifiers classes lengths parents depths shares senders event-rows order₀ report lags working₀ starts₀ finishes₀ virtuals₀ heads₀ head-lengths₀ head-classes₀ bytes₀ held₀ since₀ parent-since₀ lasts₀ sent₀ i₀ order working starts finishes virtuals heads head-lengths head-classes bytes held since parent-since lasts sent i = length classes - i
+μ-loop way identifiers classes lengths parents depths shares senders event-rows order₀ report lags working₀ starts₀ finishes₀ virtuals₀ heads₀ head-lengths₀ head-classes₀ bytes₀ held₀ since₀ parent-since₀ lasts₀ roots₀ left₀ right₀ sent₀ i₀ order working starts finishes virtuals heads head-lengths head-classes bytes held since parent-since lasts roots left right sent i = length classes - i
 
 -- ── what is lent ──
 
@@ -57,7 +58,7 @@ module _ (s : tie.Start Inv-loop μ-loop) where
 
 module _ (l : tie.At-loop Inv-loop μ-loop) where
   abbrev start : tie.Start Inv-loop μ-loop
-  start = l .before .before .before .before .before .before .before .before .before .before .before
+  start = l .before .before .before .before .before .before .before .before .before .before .before .before .before .before
 
   abbrev rows : Rows
   rows = rows-of (l .loop .starts) (l .loop .finishes) (l .loop .virtuals) (l .loop .heads) (l .loop .head-lengths) (l .loop .head-classes)
@@ -71,8 +72,8 @@ module _ (t : tie.In-loop Inv-loop μ-loop) where
   passed = t .before
 
   coming :
-      Coming (tree (start passed)) (events (start passed)) (passed .loop .i) (getD (start passed .args .event-rows .now) (passed .loop .i) 0) (passed .loop .sent) (rows passed)
-      (passed .loop .bytes) (passed .loop .held) (passed .loop .since) (passed .loop .parent-since) (passed .loop .lasts) (passed .loop .working) (passed .loop .order)
+      Coming (start passed .args .way) (tree (start passed)) (events (start passed)) (passed .loop .i) (getD (start passed .args .event-rows .now) (passed .loop .i) 0) (passed .loop .sent) (rows passed)
+      (forest (passed .loop .roots) (passed .loop .left) (passed .loop .right)) (passed .loop .bytes) (passed .loop .held) (passed .loop .since) (passed .loop .parent-since) (passed .loop .lasts) (passed .loop .working) (passed .loop .order)
   coming =
       record {
         fit = fit (start passed);
@@ -101,31 +102,38 @@ module _ (a : tie.After-loop Inv-loop μ-loop) where
   end = omega (arith, a .loop-test .left, at .loop .inv .0)
 
   last :
-      Now (tree begun) (events begun) (count (events begun)) (at .loop .sent) (rows at) (at .loop .bytes) (at .loop .held) (at .loop .since) (at .loop .parent-since)
+      Now (begun .args .way) (tree begun) (events begun) (count (events begun)) (at .loop .sent) (rows at)
+      (forest (at .loop .roots) (at .loop .left) (at .loop .right)) (at .loop .bytes) (at .loop .held) (at .loop .since) (at .loop .parent-since)
       (at .loop .lasts) (at .loop .working)
   last = rw (← end) (at .loop .inv .3)
 
 -- ── the needs ──
 
+open-requires : tie.Need-open-requires Inv-loop μ-loop
+open-requires c κs =
+    let sound = fit (c .before .before .before .before .before .before .before .before) .accepted .sound in
+    ((sound .some-rows, sound .few-rows), (refl, refl))
+
 clear-requires : tie.Need-clear-requires Inv-loop μ-loop
-clear-requires c κs = working-room (c .before .before .before .before .before .before .before)
+clear-requires c κs = working-room (c .before .before .before .before .before .before .before .before .before .before)
 
 loop-holds : tie.Need-loop-holds Inv-loop μ-loop
 loop-holds c =
-    let s = c .before .before .before .before .before .before .before .before .before .before in
-    (omega arith, refl, refl, fresh-now (tree s) (events s) _ _ (c .before .before .clear .ensures), fresh-order (tree s) (events s) _, refl)
+    let s = c .before .before .before .before .before .before .before .before .before .before .before .before .before in
+    let filed = c .before .before .before .before .open .ensures _ _ _ _ in
+    (omega arith, refl, refl, fresh-now (s .args .way) (tree s) (events s) _ _ _ filed (c .before .before .clear .ensures), fresh-order (tree s) (events s) _, refl)
 
 element-copy-out-step : tie.Need-element-copy-out-step Inv-loop μ-loop
-element-copy-out-step c = omega (arith, few-events (c .before .before .before .before .before .before .before .before .before .before .before .before .before))
+element-copy-out-step c = omega (arith, few-events (c .before .before .before .before .before .before .before .before .before .before .before .before .before .before .before .before))
 
 step-requires : tie.Need-step-requires Inv-loop μ-loop
 step-requires c κs =
-    let t = c .before .before .before .before .before .before .before .before .before .before .before .before .before .before in
+    let t = c .before .before .before .before .before .before .before .before .before .before .before .before .before .before .before .before .before in
     let s = start (passed t) in
-    (s .args .identifiers .now, s .args .classes .now, coming t)
+    (_, s .args .identifiers .now, s .args .classes .now, coming t)
 
 abbrev in-loop : tie.After-slice-known6 Inv-loop μ-loop → tie.In-loop Inv-loop μ-loop
-in-loop c = c .before .before .before .before .before .before .before .before .before .before .before .before .before .before .before .before .before .before .before
+in-loop c = c .before .before .before .before .before .before .before .before .before .before .before .before .before .before .before .before .before .before .before .before .before .before
 
 add-i : tie.Need-add-i Inv-loop μ-loop
 add-i c = omega (arith, few-events (in-loop c))
@@ -139,10 +147,10 @@ loop-again c =
     let l = passed t in
     let s = start l in
     let step = c .before .before .before .before .step in
-    let gone = step .ensures (s .args .identifiers .now) (s .args .classes .now) (coming t) in (
+    let gone = step .ensures _ (s .args .identifiers .now) (s .args .classes .now) (coming t) in (
       omega (arith, t .loop-test .taken),
-      step .kept .1 .1 .1 .1 .1 .1 .1 .1 .1 .1 .1 .1 .1 .1 .1 .1 .1 .0 ∙ l .loop .inv .1,
-      step .kept .1 .1 .1 .1 .1 .1 .1 .1 .1 .1 .1 .1 .1 .1 .1 .1 .0 ∙ l .loop .inv .2,
+      step .kept .1 .1 .1 .1 .1 .1 .1 .1 .1 .1 .1 .1 .1 .1 .1 .1 .1 .1 .1 .1 .0 ∙ l .loop .inv .1,
+      step .kept .1 .1 .1 .1 .1 .1 .1 .1 .1 .1 .1 .1 .1 .1 .1 .1 .1 .1 .1 .0 ∙ l .loop .inv .2,
       rw add-one (gone .now),
       rw add-one (gone .order-on _ (sym (l .loop .inv .1)) (l .loop .inv .4)),
       gone .links-rest ∙ l .loop .inv .5,
@@ -165,7 +173,7 @@ write-lags-requires c κs =
           (λ r inside. omega (arith, fit s .inside r)),
           (
             (λ r inside. fit s .parts r),
-            (bytes-now (tree s) (events s) _ _ _ _ _ _ _ _ (last a) (fit s), past-now (tree s) (events s) _ _ _ _ _ _ _ _ (last a) (fit s)),
+            (bytes-now (last a) (fit s), past-now (last a) (fit s)),
           ),
         ),
       ),
@@ -190,7 +198,7 @@ returns c =
     record {
       sent-are = last a .sent-are;
       order-is = rw (← end a) (at a .loop .inv .4);
-      report-is = c .before .before .before .before .before .before .before .before .before .write-report .ensures (tree s) (box a) (s .pre .1 .0) (shown (tree s) (events s) _ _ _ _ _ _ _ _ (last a));
+      report-is = c .before .before .before .before .before .before .before .before .before .write-report .ensures (tree s) (box a) (s .pre .1 .0) (shown (last a));
       lags-are = c .before .write-lags .ensures (tree s) (box a) (record { parents = refl; shares = refl }) (last a .counts-are);
       working-rest = at a .loop .inv .5 ∙ cleared-rest (count (events s)) (s .args .working .now) _ (at a .before .before .before .clear .ensures);
     }
@@ -198,5 +206,5 @@ returns c =
 pub serve-spec : {M : Type 1} → statement M
 serve-spec =
     tie.close
-    (tie.spec Inv-loop μ-loop clear-requires loop-holds element-copy-out-step step-requires add-i loop-less loop-again write-report-requires write-lags-requires same-length
+    (tie.spec Inv-loop μ-loop open-requires clear-requires loop-holds element-copy-out-step step-requires add-i loop-less loop-again write-report-requires write-lags-requires same-length
     same-length-2 same-length-3 same-length-4 returns)
