@@ -26,6 +26,14 @@ unfoldable pub lengths-refused : Table → Events → Room → Refusal
 lengths-refused table events room =
     first (rows-refused table ∷ events-refused events ∷ room-refused (length (table .identifiers)) (count events) room ∷ [])
 
+-- slices of so many words
+pub record SlicesOf (table : Table) (list : Events) (rows parents shares events lengths : ℕ) : Type 0 where
+  pub rows-are : length (table .identifiers) ≡ rows
+  pub parents-are : length (table .parent-identifiers) ≡ parents
+  pub shares-are : length (table .shares) ≡ shares
+  pub events-are : count list ≡ events
+  pub lengths-are : length (list .lengths) ≡ lengths
+
 abbrev pub ChecksLengths : Table → Events → Room → Refusal → Type 0
 ChecksLengths table events room refusal = refusal ≡ lengths-refused table events room
 

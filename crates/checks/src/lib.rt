@@ -8,12 +8,13 @@ ghost use Prim.Native.Nat.{ℕ, _≤_, _<_, _^_};
 ghost use lib.ListN as lists;
 ghost use Rattle.input.specs.declared.Event.the-variants.{Arrival, Finish};
 ghost use Rattle.input.specs.Limits.{most-rows, most-events};
-ghost use Rattle.input.specs.Classes.{Tree};
+ghost use Rattle.input.specs.Classes.{Table, Tree};
+ghost use Rattle.input.specs.Events.{Events, count};
 ghost use Rattle.input.specs.Refusals.{events-refused, room-refused, packet-refused};
 ghost use Rattle.input.specs.Lent.{table-of, events-of, room-with};
 ghost use Rattle.rules.specs.Promise.{one-arrival, one-finish};
 ghost use Rattle.checks.specs.Filed.{AllFiled};
-ghost use Rattle.checks.specs.Counted.{ChecksLengths, Known, Meets, MeetsAll, stopping, Checks};
+ghost use Rattle.checks.specs.Counted.{SlicesOf, ChecksLengths, Known, Meets, MeetsAll, stopping, Checks};
 use input::Event;
 use input::EventRows;
 use input::OnAirRows;
@@ -42,14 +43,14 @@ pub struct Checked {
     pub event_rows: EventRows,
 }
 
-// 2: the event slices are unequal, or there are too many events.
-fn events_refused(classes: &[u32], lengths: &[u32]) -> Refusal
-    ensures { λ r. ⌜ r ≡ events-refused (events-of (now (classes .entry)) (now (lengths .entry))) ⌝ }
+// 2: the event slices, of so many words, are unequal, or there are too many events.
+fn events_refused(events: usize, lengths: usize) -> Refusal
+    ensures { λ r. ⌜ ((list : Events) → count list ≡ events → lists.length (list .lengths) ≡ lengths → r ≡ events-refused list) ⌝ }
 {
-    if lengths.len() != classes.len() {
+    if lengths != events {
         return tables::refusal(2, 0, 0);
     }
-    if input::MOST_EVENTS < classes.len() {
+    if input::MOST_EVENTS < events {
         return tables::refusal(2, 0, 0);
     }
     tables::none()
@@ -82,6 +83,28 @@ fn room_refused(
     tables::none()
 }
 
+// The check of the lengths, where the slices have so many words.
+pub fn check_counts(
+    rows: usize,
+    parents: usize,
+    shares: usize,
+    events: usize,
+    lengths: usize,
+    order: usize,
+    report: usize,
+    lags: usize,
+    working: usize,
+) -> Refusal
+    requires { ⌜ rows < 2 ^ 61 ⌝ }
+    ensures { λ r. ⌜ ((table : Table) (list : Events) → SlicesOf table list rows parents shares events lengths →
+        ChecksLengths table list (room-with order report lags working) r) ⌝ }
+{
+    let unequal = tables::rows_refused(rows, parents, shares);
+    let many = events_refused(events, lengths);
+    let room = room_refused(rows, events, order, report, lags, working);
+    tables::or_else(unequal, tables::or_else(many, room))
+}
+
 // The check of the lengths: those of the lent slices of a table and of an event list, and those of the result slices.
 pub fn check_lengths(
     identifiers: &[u32],
@@ -97,17 +120,17 @@ pub fn check_lengths(
     ensures { λ r. ⌜ ChecksLengths (table-of (now (identifiers .entry)) (now («parent_identifiers» .entry)) (now (shares .entry)))
         (events-of (now (classes .entry)) (now (lengths .entry))) (room-with order report lags working) r ⌝ }
 {
-    let rows = tables::rows_refused(identifiers, parent_identifiers, shares);
-    let events = events_refused(classes, lengths);
-    let room = room_refused(
+    check_counts(
         identifiers.len(),
+        parent_identifiers.len(),
+        shares.len(),
         classes.len(),
+        lengths.len(),
         order,
         report,
         lags,
         working,
-    );
-    tables::or_else(rows, tables::or_else(events, room))
+    )
 }
 
 // 1 for an arrival.

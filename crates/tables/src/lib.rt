@@ -108,15 +108,15 @@ pub fn row_of(identifiers: &[u32], class: u32) -> usize
     place_of(class, identifiers, identifiers.len())
 }
 
-// 1: the row slices are unequal, or the rows too few or too many.
-pub fn rows_refused(identifiers: &[u32], parent_identifiers: &[u32], shares: &[u32]) -> Refusal
-    ensures { λ r. ⌜ r ≡ rows-refused (table-of (now (identifiers .entry)) (now («parent_identifiers» .entry)) (now (shares .entry))) ⌝ }
+// 1: the row slices, of so many words, are unequal, or the rows too few or too many.
+pub fn rows_refused(rows: usize, parents: usize, shares: usize) -> Refusal
+    ensures { λ r. ⌜ ((table : Table) → length (table .identifiers) ≡ rows → length (table .parent-identifiers) ≡ parents → length (table .shares) ≡ shares →
+        r ≡ rows-refused table) ⌝ }
 {
-    let rows = identifiers.len();
-    if parent_identifiers.len() != rows {
+    if parents != rows {
         return refusal(1, 0, 0);
     }
-    if shares.len() != rows {
+    if shares != rows {
         return refusal(1, 0, 0);
     }
     if rows < LEAST_ROWS {
@@ -375,7 +375,7 @@ pub fn read_sized(identifiers: &[u32], parent_identifiers: &[u32], shares: &[u32
 pub fn read_table(identifiers: &[u32], parent_identifiers: &[u32], shares: &[u32]) -> Reading
     ensures { λ r. ⌜ Reads (table-of (now (identifiers .entry)) (now («parent_identifiers» .entry)) (now (shares .entry))) r ⌝ }
 {
-    let refusal = rows_refused(identifiers, parent_identifiers, shares);
+    let refusal = rows_refused(identifiers.len(), parent_identifiers.len(), shares.len());
     if refusal.number != 0 {
         return refusing(refusal);
     }

@@ -1,39 +1,15 @@
--- `checks::check_lengths` meets its contract: 1, 2, 3 in this order.
+-- `checks::check_lengths` meets its contract: 1, 2, 3 in this order, by how many words there are.
 -- Assumes nothing.
-use mathlib.Core.Path.{sym, _∙_, ap₂}
-use native.Mathlib.Omega.{arith}
+use mathlib.Core.Path.{refl}
 use borrow.Author.Needs.{needs}
-use Rattle.input.specs.Refusals.{or-else, first, room-refused}
-use Rattle.checks.specs.Counted.{lengths-refused}
-use Rattle.tables.proofs.Firsts.{given-last}
 use Rattle.checks.proofs.check_lengths.Statement.{statement}
 use Rattle.checks.proofs.check_lengths.Tie as tie
 
-rows-refused-requires : tie.Need-rows-refused-requires
-rows-refused-requires c κs = search needs
-
-events-refused-requires : tie.Need-events-refused-requires
-events-refused-requires c κs = search needs
-
-room-refused-requires : tie.Need-room-refused-requires
-room-refused-requires c κs = search needs
-
-or-else-requires : tie.Need-or-else-requires
-or-else-requires c κs = search needs
-
-or-else-requires-2 : tie.Need-or-else-requires-2
-or-else-requires-2 c κs = search needs
+check-counts-requires : tie.Need-check-counts-requires
+check-counts-requires c κs = search needs
 
 returns : tie.Need-returns
-unfolding lengths-refused first room-refused
-returns c =
-    c .or-else2 .ensures
-    ∙ ap₂ or-else (c .before .before .before .before .rows-refused .ensures)
-    (c .before .or-else .ensures
-    ∙ ap₂ or-else (c .before .before .before .events-refused .ensures)
-    (c .before .before .room-refused .ensures ∙ sym (given-last _ 3 0 (omega arith))))
+returns c = c .check-counts .ensures _ _ (record { rows-are = refl; parents-are = refl; shares-are = refl; events-are = refl; lengths-are = refl })
 
 pub check-lengths-spec : {M : Type 1} → statement M
-check-lengths-spec =
-    tie.close
-    (tie.spec rows-refused-requires events-refused-requires room-refused-requires or-else-requires or-else-requires-2 returns)
+check-lengths-spec = tie.close (tie.spec check-counts-requires returns)

@@ -11,21 +11,21 @@ refusal-requires c κs = search needs
 
 returns : tie.Need-returns
 unfolding events-refused given nothing
-returns c = search tests
+returns c list events lengths = rw (events, lengths) (search tests)
 
 refusal-requires-2 : tie.Need-refusal-requires-2
 refusal-requires-2 c κs = search needs
 
 returns-2 : tie.Need-returns-2
 unfolding events-refused given nothing
-returns-2 c = search tests
+returns-2 c list events lengths = rw (events, lengths) (search tests)
 
 none-requires : tie.Need-none-requires
 none-requires c κs = search needs
 
 returns-3 : tie.Need-returns-3
 unfolding events-refused given nothing
-returns-3 c = search tests
+returns-3 c list events lengths = rw (events, lengths) (search tests)
 
 pub events-refused-spec : {M : Type 1} → statement M
 events-refused-spec =

@@ -1,5 +1,6 @@
 -- `tables::read_table` meets its contract: 1 is looked for first, and without it the slices are of one length.
 -- Assumes nothing.
+use mathlib.Core.Path.{refl}
 use borrow.Author.Needs.{needs}
 use Rattle.input.specs.Classes.{Table, tree-of}
 use Rattle.input.specs.Refusals.{table-refused}
@@ -25,7 +26,7 @@ returns c =
     let t = table (c .before .before .before .before .before .before .before) in
     let first = c .before .before .before .rows-refused in
     rw (
-      ← first .ensures,
+      ← first .ensures t refl refl refl,
       or-else-first (first .result) (table-refused t) (c .before .if1 .taken),
       answer-refuses (first .result)
           (tree-of t) (c .before .if1 .taken),
@@ -34,15 +35,16 @@ returns c =
 
 read-sized-requires : tie.Need-read-sized-requires
 read-sized-requires c κs =
+    let t = table (c .before .before .before .before .before .before) in
     let first = c .before .before .rows-refused in
-    sized (table (c .before .before .before .before .before .before)) (rw (← first .ensures) (c .if1 .left))
+    sized t (rw (← first .ensures t refl refl refl) (c .if1 .left))
 
 returns-2 : tie.Need-returns-2
 unfolding reading
 returns-2 c =
     let t = table (c .before .before .before .before .before .before .before) in
     let first = c .before .before .before .rows-refused in
-    rw (← first .ensures, or-else-second (first .result) (table-refused t) (c .before .if1 .left)) (c .read-sized .ensures)
+    rw (← first .ensures t refl refl refl, or-else-second (first .result) (table-refused t) (c .before .if1 .left)) (c .read-sized .ensures)
 
 pub read-table-spec : {M : Type 1} → statement M
 read-table-spec =

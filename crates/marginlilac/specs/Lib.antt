@@ -1,0 +1,3 @@
+-- The run on lent bytes.
+pub mod Exported
+pub mod Held
