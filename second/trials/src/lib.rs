@@ -1,10 +1,13 @@
-//! Tables and event lists for comparing and timing programs, the same for the same seed;
-//! running programs over them, and showing where they differ.
+//! Tables and event lists for comparing and timing programs and engines, the same for the same
+//! seed; running programs over them, calling engines, and showing where they differ.
 #![forbid(unsafe_code)]
 
 mod bench;
+mod buffers;
 mod case;
+mod damage;
 mod ending;
+pub mod engines;
 mod events;
 mod files;
 mod folder;
@@ -18,7 +21,9 @@ mod tables;
 mod times;
 
 pub use bench::{answer_name, folders, Bench, Both, Program, ANSWERS};
+pub use buffers::{call, Buffers, Engine, ANSWER_BYTES, SLICES, WORD_BYTES};
 pub use case::{Case, Event, Row, FINISH};
+pub use damage::{damage, damage_twice, NUMBERS};
 pub use ending::counted;
 pub use events::{random_events, sending, EDGES};
 pub use files::{lines, Files};
@@ -27,7 +32,7 @@ pub use printed::{End, Printed};
 pub use random::Random;
 pub use rounding::{rounding_case, rounding_cases, WRONG_CHARGES};
 pub use show::difference;
-pub use steady::steady_case;
+pub use steady::{sparse_case, steady_case};
 pub use tables::{
     any_share, even_table, fresh_identifier, random_table, same_on_air, unknown_identifier, Shape,
     SHAPES,

@@ -2,7 +2,6 @@
 #![forbid(unsafe_code)]
 
 mod charged;
-mod damage;
 mod edges;
 mod faults;
 mod identifiers;

@@ -2,11 +2,12 @@
 
 use std::mem::discriminant;
 
-use crate::damage::{damage, damage_twice};
 use crate::faults::{put_in, Fault, FAULTS};
 use crate::sheets::{sheet_files, Manner};
 use second::{MOST_DEPTH, MOST_EVENTS, WHOLE};
-use trials::{random_events, random_table, rounding_case, Case, Files, Random, Shape};
+use trials::{
+    damage, damage_twice, random_events, random_table, rounding_case, Case, Files, Random, Shape,
+};
 
 #[derive(Clone, Copy, Debug)]
 enum Kind {

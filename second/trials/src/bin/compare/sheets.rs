@@ -3,10 +3,9 @@
 use std::ffi::{OsStr, OsString};
 use std::os::unix::ffi::OsStrExt;
 
-use crate::damage::damage;
 use crate::faults::{put_in, Fault, NOT_DIGITS, TOO_LARGE};
 use second::{MOST_BYTES, MOST_EVENTS};
-use trials::{any_share, random_table, Case, Files, Random, Row, Shape, EDGES, SHAPES};
+use trials::{any_share, damage, random_table, Case, Files, Random, Row, Shape, EDGES, SHAPES};
 
 #[derive(Clone, Copy, Debug, PartialEq, Eq)]
 pub enum Manner {
