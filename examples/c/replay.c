@@ -8,7 +8,16 @@
 
 #include "marginlilac.h"
 
-enum { MOST_COLUMNS = 3, REPORT_WORDS = 5, MOST_LINE = 64 };
+enum { MOST_COLUMNS = 3, REPORT_WORDS = 5, MOST_LINE = 64, MOST_TEXT = 65536 };
+
+static const char table_heading[] = "identifier,parent,share";
+
+/* A table's text and how far it has been read. Lines count from 1. */
+struct text {
+    char bytes[MOST_TEXT + 1];
+    size_t length, at;
+    uint32_t line;
+};
 
 /* The lines of a file below its heading, column by column. */
 struct lines {
@@ -74,19 +83,32 @@ static int read_numbers(const char *text, struct lines *lines, size_t line, size
     return is_end(text);
 }
 
-static struct lines read_lines(const char *name, const char *heading, size_t columns)
+static struct lines room_for(size_t count, size_t columns)
 {
-    struct lines lines = {0};
-    char text[MOST_LINE];
-    FILE *file = fopen(name, "r");
+    struct lines lines = {.count = count};
+    for (size_t column = 0; column < columns; column++)
+        lines.column[column] = room(count, sizeof(uint32_t));
+    return lines;
+}
+
+static FILE *opened(const char *name)
+{
+    FILE *file = fopen(name, "rb");
     if (file == NULL)
         fail(name, 1);
-    size_t count = count_lines(file), length = strlen(heading);
+    return file;
+}
+
+static struct lines read_events(const char *name)
+{
+    static const char heading[] = "class,length";
+    size_t columns = 2, length = strlen(heading);
+    char text[MOST_LINE];
+    FILE *file = opened(name);
+    size_t count = count_lines(file);
     if (fgets(text, sizeof text, file) == NULL || strncmp(text, heading, length) != 0 || !is_end(text + length))
         fail(name, 1);
-    lines.count = count - 1;
-    for (size_t column = 0; column < columns; column++)
-        lines.column[column] = room(lines.count, sizeof(uint32_t));
+    struct lines lines = room_for(count - 1, columns);
     for (size_t line = 0; line < lines.count; line++)
         if (fgets(text, sizeof text, file) == NULL || !read_numbers(text, &lines, line, columns))
             fail(name, line + 2);
@@ -94,6 +116,106 @@ static struct lines read_lines(const char *name, const char *heading, size_t col
         fail(name, count + 1);
     fclose(file);
     return lines;
+}
+
+/* The byte that is looked at; -1 at the end. */
+static int looked_at(const struct text *text)
+{
+    return text->at < text->length ? (unsigned char)text->bytes[text->at] : -1;
+}
+
+/* This and the next three give the number of a fault, or 0. Here it is that of a CR with no LF after it. */
+static uint32_t read_line_feed(struct text *text)
+{
+    int c = looked_at(text);
+    if (c != '\n')
+        return c < 0 ? 47 : 46;
+    text->at++;
+    text->line++;
+    return 0;
+}
+
+static uint32_t read_heading(struct text *text)
+{
+    for (const char *wanted = table_heading; *wanted != '\0'; wanted++, text->at++)
+        if (looked_at(text) != *wanted)
+            return looked_at(text) < 0 ? 47 : 41;
+    switch (looked_at(text)) {
+    case '\r':
+        text->at++;
+        return read_line_feed(text);
+    case '\n':
+        return 46;
+    case -1:
+        return 47;
+    default:
+        return 41;
+    }
+}
+
+/* A number, and the comma or CR after it. */
+static uint32_t read_field(struct text *text, size_t column, uint32_t *word)
+{
+    uint64_t number = 0;
+    size_t begin = text->at;
+    int c;
+    for (; (c = looked_at(text)) >= '0' && c <= '9'; text->at++) {
+        if (text->at > begin && number == 0)
+            return 43;
+        number = number * 10 + (uint64_t)(c - '0');
+        if (number > UINT32_MAX)
+            return 44;
+    }
+    if (c < 0)
+        return 47;
+    if (text->at == begin)
+        return 42;
+    if (c == '\n')
+        return 46;
+    if (c != ',' && c != '\r')
+        return 42;
+    if ((c == ',') != (column + 1 < MOST_COLUMNS))
+        return 45;
+    text->at++;
+    *word = (uint32_t)number;
+    return 0;
+}
+
+static uint32_t read_row(struct text *text, struct lines *table)
+{
+    uint32_t row[MOST_COLUMNS], fault = 0;
+    size_t place = text->line - 2;
+    for (size_t column = 0; column < MOST_COLUMNS && fault == 0; column++)
+        fault = read_field(text, column, &row[column]);
+    if (fault == 0)
+        fault = read_line_feed(text);
+    for (size_t column = 0; column < MOST_COLUMNS && fault == 0; column++)
+        table->column[column][place] = row[column];
+    return fault;
+}
+
+/* A table by the strict form of its text; where that has a fault, the answer is its number and its line. */
+static struct lines read_table(const char *name, uint32_t *answer)
+{
+    static struct text text;
+    FILE *file = opened(name);
+    size_t count = count_lines(file);
+    struct lines table = room_for(count > 0 ? count - 1 : 0, MOST_COLUMNS);
+    text.length = fread(text.bytes, 1, sizeof text.bytes, file);
+    text.line = 1;
+    if (ferror(file))
+        fail(name, 1);
+    fclose(file);
+    if (text.length > MOST_TEXT) {
+        answer[0] = 40;
+        return table;
+    }
+    uint32_t fault = read_heading(&text);
+    while (fault == 0 && text.at < text.length)
+        fault = read_row(&text, &table);
+    answer[0] = fault;
+    answer[1] = fault != 0 ? text.line : 0;
+    return table;
 }
 
 static void run(int heaps, const struct lines *table, const struct lines *events, struct results *results)
@@ -119,19 +241,19 @@ static void run(int heaps, const struct lines *table, const struct lines *events
 static void print(const struct lines *table, const struct results *results)
 {
     const uint32_t *answer = results->answer;
-    printf("answer,place,second,count\n");
-    printf("%" PRIu32 ",%" PRIu32 ",%" PRIu32 ",%" PRIu32 "\n", answer[0], answer[1], answer[2], answer[3]);
+    printf("answer,place,second,count\r\n");
+    printf("%" PRIu32 ",%" PRIu32 ",%" PRIu32 ",%" PRIu32 "\r\n", answer[0], answer[1], answer[2], answer[3]);
     if (answer[0] != 0)
         return;
-    printf("order\n");
+    printf("order\r\n");
     for (size_t place = 0; place < answer[3]; place++)
-        printf("%" PRIu32 "\n", results->order[place]);
-    printf("identifier,bytes,start,finish,virtual,held,lag\n");
+        printf("%" PRIu32 "\r\n", results->order[place]);
+    printf("identifier,bytes,start,finish,virtual,held,lag\r\n");
     for (size_t row = 0; row < table->count; row++) {
         printf("%" PRIu32, table->column[0][row]);
         for (size_t word = 0; word < REPORT_WORDS; word++)
             printf(",%" PRIu64, results->report[row * REPORT_WORDS + word]);
-        printf(",%" PRId64 "\n", results->lags[row]);
+        printf(",%" PRId64 "\r\n", results->lags[row]);
     }
 }
 
@@ -148,10 +270,12 @@ int main(int argc, char **argv)
         fputs("replay: give a class table and an event list: replay TABLE EVENTS [heaps]\n", stderr);
         return EXIT_FAILURE;
     }
-    struct lines table = read_lines(argv[1], "identifier,parent,share", 3);
-    struct lines events = read_lines(argv[2], "class,length", 2);
-    struct results results;
-    run(heaps, &table, &events, &results);
+    struct results results = {0};
+    struct lines events = {0}, table = read_table(argv[1], results.answer);
+    if (results.answer[0] == 0) {
+        events = read_events(argv[2]);
+        run(heaps, &table, &events, &results);
+    }
     print(&table, &results);
     free(results.order);
     free(results.report);

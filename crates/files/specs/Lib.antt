@@ -1,2 +1,6 @@
--- What a file's bytes leave in the columns. A reader must believe these definitions; nothing here is code.
+-- What a file's bytes leave in the columns or in what is lent for them, and what is said where a file cannot be read. A reader must
+-- believe these definitions; nothing here is code.
 pub mod Columns
+pub mod Lent
+pub mod Sentences
+pub mod Tables

@@ -1,55 +1,38 @@
-// Reading a file into columns.
+// Reading a list of events into columns.
 ghost use mathlib.Core.Path.{_≡_};
-ghost use mathlib.Core.Bool.{false};
+ghost use mathlib.Core.Bool.{false, cond};
 ghost use Prim.Native.Nat.{_-_};
 ghost use lib.ListN.{set, take};
+ghost use Rattle.text.specs.Reading.{unread};
 ghost use Rattle.files.specs.Columns as columns;
+use crate::Loaded;
+use crate::Turn;
 use crate::unreadable::cannot_open;
 use crate::unreadable::cannot_read;
 use text::Found;
-use text::Kind;
 use text::Scan;
-
-// Whether the file could be read, and how many lines of numbers it has.
-pub struct Loaded {
-    pub good: bool,
-    pub rows: u64,
-}
-
-// How far a file is read: whether more may come, whether a read failed, and the scan.
-pub struct Turn {
-    pub more: bool,
-    pub failed: bool,
-    pub scan: Scan,
-}
 
 // Reads the file that an argument names, and says what is wrong with it if something is. The longest argument that the system
 // passes has 131,071 bytes. Lines past the end of the columns are counted and not kept.
-pub fn load(
-    argument: usize,
-    kind: Kind,
-    first: &mut [u32],
-    second: &mut [u32],
-    third: &mut [u32],
-) -> Loaded {
+pub fn load(argument: usize, first: &mut [u32], second: &mut [u32]) -> Loaded
+    ensures { λ r. ⌜ columns.Loads (now (first .entry)) (now (second .entry)) (now (first .exit)) (now (second .exit)) r ⌝ }
+{
     let mut name = [0u8; 131072];
     let length = os::arg(argument, &mut name);
-    load_named(&name[..length], kind, first, second, third)
+    load_named(&name[..length], first, second)
 }
 
-fn load_named(
-    name: &[u8],
-    kind: Kind,
-    first: &mut [u32],
-    second: &mut [u32],
-    third: &mut [u32],
-) -> Loaded {
-    let end = read_file(name, kind, first, second, third);
-    judged(name, kind, end)
+fn load_named(name: &[u8], first: &mut [u32], second: &mut [u32]) -> Loaded
+    ensures { λ r. ⌜ columns.Loads (now (first .entry)) (now (second .entry)) (now (first .exit)) (now (second .exit)) r ⌝ }
+{
+    let end = read_file(name, first, second);
+    judged(name, end)
 }
 
 // What came of reading a file to its end.
-fn judged(name: &[u8], kind: Kind, end: Turn) -> Loaded {
+fn judged(name: &[u8], end: Turn) -> Loaded
+    ensures { λ r. ⌜ r ≡ cond (end .failed) columns.none (columns.judged (end .scan)) ⌝ }
+{
     if end.failed {
         cannot_open(name);
         return none();
@@ -57,7 +40,7 @@ fn judged(name: &[u8], kind: Kind, end: Turn) -> Loaded {
     let scan = end.scan;
     let found = text::finish(scan);
     if text::wrong(found) {
-        cannot_read(name, kind, scan.lines, found);
+        cannot_read(name, scan.lines, found);
         return none();
     }
     Loaded {
@@ -66,8 +49,8 @@ fn judged(name: &[u8], kind: Kind, end: Turn) -> Loaded {
     }
 }
 
-fn none() -> Loaded
-    ensures { λ r. ⌜ r ≡ record { good = false; rows = 0 } ⌝ }
+pub fn none() -> Loaded
+    ensures { λ r. ⌜ r ≡ columns.none ⌝ }
 {
     Loaded {
         good: false,
@@ -81,19 +64,16 @@ fn one_less(n: u64) -> u64
     if n == 0 { 0 } else { n - 1 }
 }
 
-fn read_file(
-    name: &[u8],
-    kind: Kind,
-    first: &mut [u32],
-    second: &mut [u32],
-    third: &mut [u32],
-) -> Turn {
-    let start = text::begin(kind);
+fn read_file(name: &[u8], first: &mut [u32], second: &mut [u32]) -> Turn
+    ensures { λ r. ⌜ columns.Filled (columns.columns-of unread (now (first .entry)) (now (second .entry)))
+        (columns.columns-of (r .scan) (now (first .exit)) (now (second .exit))) ⌝ }
+{
+    let start = text::begin();
     let file = os::open_read(name);
     if file < 0 {
         return ended(true, start);
     }
-    let end = read_all(file, start, first, second, third);
+    let end = read_all(file, start, first, second);
     libc::close(file);
     end
 }
@@ -111,13 +91,10 @@ fn ended(failed: bool, scan: Scan) -> Turn
 
 // Reads to the end of the file. A loop has to end, and nothing says that a file does, so this one counts its turns down from a
 // number that no run uses up.
-fn read_all(
-    file: i32,
-    start: Scan,
-    first: &mut [u32],
-    second: &mut [u32],
-    third: &mut [u32],
-) -> Turn {
+fn read_all(file: i32, start: Scan, first: &mut [u32], second: &mut [u32]) -> Turn
+    ensures { λ r. ⌜ columns.Filled (columns.columns-of start (now (first .entry)) (now (second .entry)))
+        (columns.columns-of (r .scan) (now (first .exit)) (now (second .exit))) ⌝ }
+{
     let mut turn = Turn {
         more: true,
         failed: false,
@@ -129,26 +106,23 @@ fn read_all(
             return turn;
         }
         let scan = turn.scan;
-        turn = read_some(file, scan, first, second, third);
+        turn = read_some(file, scan, first, second);
         turns -= 1;
     }
     turn
 }
 
-fn read_some(
-    file: i32,
-    scan: Scan,
-    first: &mut [u32],
-    second: &mut [u32],
-    third: &mut [u32],
-) -> Turn {
+fn read_some(file: i32, scan: Scan, first: &mut [u32], second: &mut [u32]) -> Turn
+    ensures { λ r. ⌜ columns.Filled (columns.columns-of scan (now (first .entry)) (now (second .entry)))
+        (columns.columns-of (r .scan) (now (first .exit)) (now (second .exit))) ⌝ }
+{
     let mut buffer = [0u8; 65536];
     let got = libc::read(file, &mut buffer);
     if got <= 0 {
         return ended(got < 0, scan);
     }
     let n = io::count(got, &buffer);
-    let next = read_bytes(scan, &buffer[..n], first, second, third);
+    let next = read_bytes(scan, &buffer[..n], first, second);
     Turn {
         more: true,
         failed: false,
@@ -157,41 +131,33 @@ fn read_some(
 }
 
 // Reads these bytes.
-fn read_bytes(
-    scan: Scan,
-    bytes: &[u8],
-    first: &mut [u32],
-    second: &mut [u32],
-    third: &mut [u32],
-) -> Scan
-    ensures { λ r. ⌜ columns.columns-of r (now (first .exit)) (now (second .exit)) (now (third .exit))
-        ≡ columns.with-bytes (columns.columns-of scan (now (first .entry)) (now (second .entry)) (now (third .entry))) (now (bytes .entry)) ⌝ }
+fn read_bytes(scan: Scan, bytes: &[u8], first: &mut [u32], second: &mut [u32]) -> Scan
+    ensures { λ r. ⌜ columns.columns-of r (now (first .exit)) (now (second .exit))
+        ≡ columns.with-bytes (columns.columns-of scan (now (first .entry)) (now (second .entry))) (now (bytes .entry)) ⌝ }
 {
     let mut scan = scan;
     let mut i = 0;
     while i < bytes.len() {
-        scan = step(scan, bytes[i], first, second, third);
+        scan = step(scan, bytes[i], first, second);
         i += 1;
     }
     scan
 }
 
 // One byte, and the numbers of the line that it ends, if it ends one.
-fn step(scan: Scan, byte: u8, first: &mut [u32], second: &mut [u32], third: &mut [u32]) -> Scan
-    ensures { λ r. ⌜ columns.columns-of r (now (first .exit)) (now (second .exit)) (now (third .exit))
-        ≡ columns.with-byte (columns.columns-of scan (now (first .entry)) (now (second .entry)) (now (third .entry))) byte ⌝ }
+fn step(scan: Scan, byte: u8, first: &mut [u32], second: &mut [u32]) -> Scan
+    ensures { λ r. ⌜ columns.columns-of r (now (first .exit)) (now (second .exit))
+        ≡ columns.with-byte (columns.columns-of scan (now (first .entry)) (now (second .entry))) byte ⌝ }
 {
     let next = text::feed(scan, byte);
     let found = next.found;
     if let Found::Row {
         first: a,
         second: b,
-        third: c,
     } = found {
         let place = row_of(next.lines);
         keep(first, place, a);
         keep(second, place, b);
-        keep(third, place, c);
     }
     next
 }

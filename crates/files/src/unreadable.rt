@@ -1,37 +1,61 @@
 // What is said of a file that cannot be read.
 ghost use mathlib.Core.Path.{_≡_};
 ghost use Prim.Native.Nat.{_+_, _-_, _^_, min};
+ghost use Rattle.output.specs.Pages.{Puts};
+ghost use Rattle.files.specs.Sentences as sentences;
 use libc::STDOUT_FILENO;
-use output::Sink;
-use output::flush;
-use output::onto;
 use output::put_byte;
 use output::put_named;
 use output::put_number;
 use output::put_text;
 use output::put_word;
 use text::Found;
-use text::Kind;
+
+// Room for the longest name that the system passes, and for the words around it.
+const PAGE: usize = 131072 + 512;
 
 pub fn cannot_open(name: &[u8]) {
-    let mut out = [0u8; 8192];
-    let sink = put_text(&mut out, onto(STDOUT_FILENO), b"cannot read ");
-    let sink = put_text(&mut out, sink, name);
-    let sink = put_text(&mut out, sink, b": it is missing or cannot be read\n");
-    flush(&mut out, sink);
+    let mut page = [0u8; PAGE];
+    let used = put_cannot_open(&mut page, name);
+    io::write_all(STDOUT_FILENO, &page[..used]);
 }
 
 // What is wrong in the line after these lines.
-pub fn cannot_read(name: &[u8], kind: Kind, lines: u64, found: Found) {
-    let mut out = [0u8; 8192];
-    let sink = put_text(&mut out, onto(STDOUT_FILENO), b"cannot read ");
-    let sink = put_text(&mut out, sink, name);
-    let sink = put_text(&mut out, sink, b", line ");
-    let sink = put_number(&mut out, sink, one_more(lines));
-    let sink = put_text(&mut out, sink, b": ");
-    let sink = put_fault(&mut out, sink, kind, found);
-    let sink = put_byte(&mut out, sink, 10);
-    flush(&mut out, sink);
+pub fn cannot_read(name: &[u8], lines: u64, found: Found) {
+    let mut page = [0u8; PAGE];
+    let used = put_cannot_read(&mut page, name, lines, found);
+    io::write_all(STDOUT_FILENO, &page[..used]);
+}
+
+fn put_cannot_open(page: &mut [u8], name: &[u8]) -> usize
+    ensures { λ r. ⌜ Puts (sentences.cannot-open (now (name .entry))) (now (page .entry)) 0 (now (page .exit)) r ⌝ }
+{
+    let used = put_unread(page, name);
+    put_text(page, used, b": it is missing or cannot be read\n")
+}
+
+fn put_cannot_read(page: &mut [u8], name: &[u8], lines: u64, found: Found) -> usize
+    ensures { λ r. ⌜ Puts (sentences.cannot-read (now (name .entry)) lines found) (now (page .entry)) 0 (now (page .exit)) r ⌝ }
+{
+    let used = put_unread(page, name);
+    let used = put_line(page, used, lines);
+    let used = put_fault(page, used, found);
+    put_byte(page, used, 10)
+}
+
+fn put_unread(page: &mut [u8], name: &[u8]) -> usize
+    ensures { λ r. ⌜ Puts (sentences.unread (now (name .entry))) (now (page .entry)) 0 (now (page .exit)) r ⌝ }
+{
+    let used = put_text(page, 0, b"cannot read ");
+    put_text(page, used, name)
+}
+
+fn put_line(page: &mut [u8], used: usize, lines: u64) -> usize
+    ensures { λ r. ⌜ Puts (sentences.line-after lines) (now (page .entry)) used (now (page .exit)) r ⌝ }
+{
+    let used = put_text(page, used, b", line ");
+    let used = put_number(page, used, one_more(lines));
+    put_text(page, used, b": ")
 }
 
 // One more, as far as numbers go.
@@ -41,42 +65,33 @@ fn one_more(n: u64) -> u64
     if n < u64::MAX { n + 1 } else { n }
 }
 
-fn put_fault(out: &mut [u8; 8192], sink: Sink, kind: Kind, found: Found) -> Sink {
+fn put_fault(page: &mut [u8], used: usize, found: Found) -> usize
+    ensures { λ r. ⌜ Puts (sentences.fault found) (now (page .entry)) used (now (page .exit)) r ⌝ }
+{
     match found {
-        Found::Nothing => sink,
+        Found::Nothing => used,
         Found::Row {
             first: _,
             second: _,
-            third: _,
-        } => sink,
-        Found::NoEnd => put_text(out, sink, b"the line has no end"),
-        Found::WrongHeading => put_heading(out, sink, kind),
-        Found::WrongCount => put_columns(out, sink, kind),
-        Found::NoNumber(place) => put_field(out, sink, place, b" is not a decimal number"),
-        Found::TooLarge(place) => put_too_large(out, sink, place),
+        } => used,
+        Found::NoEnd => put_text(page, used, b"the line has no end"),
+        Found::WrongHeading => put_text(page, used, b"the heading must be class,length"),
+        Found::WrongCount => put_text(page, used, b"2 numbers are wanted"),
+        Found::NoNumber(place) => put_field(page, used, place, b" is not a decimal number"),
+        Found::TooLarge(place) => put_too_large(page, used, place),
     }
 }
 
-fn put_heading(out: &mut [u8; 8192], sink: Sink, kind: Kind) -> Sink {
-    match kind {
-        Kind::Table => put_text(out, sink, b"the heading must be identifier,parent,share"),
-        Kind::Events => put_text(out, sink, b"the heading must be class,length"),
-    }
+fn put_too_large(page: &mut [u8], used: usize, place: u32) -> usize
+    ensures { λ r. ⌜ Puts (sentences.too-large place) (now (page .entry)) used (now (page .exit)) r ⌝ }
+{
+    let used = put_field(page, used, place, b" is over ");
+    put_word(page, used, u32::MAX)
 }
 
-fn put_columns(out: &mut [u8; 8192], sink: Sink, kind: Kind) -> Sink {
-    match kind {
-        Kind::Table => put_text(out, sink, b"3 numbers are wanted"),
-        Kind::Events => put_text(out, sink, b"2 numbers are wanted"),
-    }
-}
-
-fn put_too_large(out: &mut [u8; 8192], sink: Sink, place: u32) -> Sink {
-    let sink = put_field(out, sink, place, b" is over ");
-    put_word(out, sink, u32::MAX)
-}
-
-fn put_field(out: &mut [u8; 8192], sink: Sink, place: u32, why: &[u8]) -> Sink {
-    let sink = put_named(out, sink, b"field ", place);
-    put_text(out, sink, why)
+fn put_field(page: &mut [u8], used: usize, place: u32, why: &[u8]) -> usize
+    ensures { λ r. ⌜ Puts (sentences.field place (now (why .entry))) (now (page .entry)) used (now (page .exit)) r ⌝ }
+{
+    let used = put_named(page, used, b"field ", place);
+    put_text(page, used, why)
 }

@@ -1,12 +1,10 @@
 // What the arguments ask for: the largest packet, the class's own bytes and the packets finished, or what is wrong with them.
 ghost use mathlib.Core.Path.{_≡_};
 ghost use Rattle.promise.specs.Arguments as arguments;
+use files::hand_over;
 use input::LEAST_BYTES;
 use input::MOST_BYTES;
 use libc::STDOUT_FILENO;
-use output::Sink;
-use output::flush;
-use output::onto;
 use output::put_byte;
 use output::put_named;
 use output::put_text;
@@ -80,30 +78,30 @@ fn from_packets(largest: u32, own: u32, packets: Field) -> Asked
 
 // Says what is wrong, where something is.
 pub fn complain(asked: Asked) {
-    let mut out = [0u8; 8192];
-    let sink = put_text(&mut out, onto(STDOUT_FILENO), b"cannot read ");
-    let sink = put_fault(&mut out, sink, asked);
-    let sink = put_byte(&mut out, sink, 10);
-    flush(&mut out, sink);
+    let mut page = [0u8; 256];
+    let used = put_text(&mut page, 0, b"cannot read ");
+    let used = put_fault(&mut page, used, asked);
+    let used = put_byte(&mut page, used, 10);
+    hand_over(STDOUT_FILENO, &page, used);
 }
 
-fn put_fault(out: &mut [u8; 8192], sink: Sink, asked: Asked) -> Sink {
+fn put_fault(page: &mut [u8], used: usize, asked: Asked) -> usize {
     match asked {
         Asked::Numbers {
             largest: _,
             own: _,
             packets: _,
-        } => sink,
-        Asked::LargestNoNumber => put_text(out, sink, b"LARGEST: it is not a decimal number"),
-        Asked::LargestNoPacket => put_no_packet(out, sink),
-        Asked::OwnNoNumber => put_text(out, sink, b"OWN: it is not a decimal number"),
-        Asked::OwnTooLarge => put_named(out, sink, b"OWN: it is over ", u32::MAX),
-        Asked::PacketsNoNumber => put_text(out, sink, b"PACKETS: it is not a decimal number"),
-        Asked::PacketsTooLarge => put_named(out, sink, b"PACKETS: it is over ", u32::MAX),
+        } => used,
+        Asked::LargestNoNumber => put_text(page, used, b"LARGEST: it is not a decimal number"),
+        Asked::LargestNoPacket => put_no_packet(page, used),
+        Asked::OwnNoNumber => put_text(page, used, b"OWN: it is not a decimal number"),
+        Asked::OwnTooLarge => put_named(page, used, b"OWN: it is over ", u32::MAX),
+        Asked::PacketsNoNumber => put_text(page, used, b"PACKETS: it is not a decimal number"),
+        Asked::PacketsTooLarge => put_named(page, used, b"PACKETS: it is over ", u32::MAX),
     }
 }
 
-fn put_no_packet(out: &mut [u8; 8192], sink: Sink) -> Sink {
-    let sink = put_text(out, sink, b"LARGEST: ");
-    put_packet_bytes(out, sink)
+fn put_no_packet(page: &mut [u8], used: usize) -> usize {
+    let used = put_text(page, used, b"LARGEST: ");
+    put_packet_bytes(page, used)
 }

@@ -2,6 +2,7 @@
 ghost use mathlib.Core.Path.{_≡_};
 ghost use Prim.Native.Nat.{_*_};
 ghost use Rattle.input.specs.Limits.{packets-a-step};
+use files::hand_over;
 use input::MOST_ROWS;
 use input::PACKETS_A_STEP;
 use input::RowMarks;
@@ -9,15 +10,15 @@ use input::SCALE;
 use input::TICKS;
 use input::WHOLE;
 use libc::STDOUT_FILENO;
-use output::Sink;
-use output::flush;
-use output::onto;
 use output::put_byte;
 use output::put_named;
 use output::put_number;
 use output::put_text;
 use sheet::Figure;
 use words::word;
+
+// Room for a sheet of all rows: no class has more than eight steps, and none takes more than 2,048 bytes.
+const SHEET_BYTES: usize = 2048 * MOST_ROWS;
 
 // Prints the sheet of each sending class, in row order.
 pub fn print<'a>(
@@ -30,14 +31,39 @@ pub fn print<'a>(
     shares: &'a [u32],
     senders: &'a RowMarks,
 ) {
-    let mut out = [0u8; 8192];
+    let mut page = [0u8; SHEET_BYTES];
+    let used = put_sheet(
+        &mut page,
+        largest,
+        own,
+        packets,
+        identifiers,
+        parents,
+        depths,
+        shares,
+        senders,
+    );
+    hand_over(STDOUT_FILENO, &page, used);
+}
+
+fn put_sheet<'a>(
+    page: &mut [u8],
+    largest: u32,
+    own: u32,
+    packets: u32,
+    identifiers: &'a [u32],
+    parents: &'a [u32],
+    depths: &'a [u32],
+    shares: &'a [u32],
+    senders: &'a RowMarks,
+) -> usize {
     let ticks = sheet::ticks(packets);
-    let mut sink = put_heading(&mut out, onto(STDOUT_FILENO), largest, own, packets, ticks);
+    let mut used = put_heading(page, 0, largest, own, packets, ticks);
     let mut row = 0;
     while row < MOST_ROWS {
-        sink = put_row(
-            &mut out,
-            sink,
+        used = put_row(
+            page,
+            used,
             senders[row],
             largest,
             own,
@@ -50,25 +76,29 @@ pub fn print<'a>(
         );
         row += 1;
     }
-    flush(&mut out, sink);
+    used
 }
 
 fn put_heading(
-    out: &mut [u8; 8192],
-    sink: Sink,
+    page: &mut [u8],
+    used: usize,
     largest: u32,
     own: u32,
     packets: u32,
     ticks: u64,
-) -> Sink {
-    let sink = put_named(out, sink, b"own bytes ", own);
-    let sink = put_named(out, sink, b", largest packet ", largest);
-    let sink = put_text(out, sink, b", three packets ");
-    let sink = put_number(out, sink, packets_bytes(largest));
-    let sink = put_named(out, sink, b", packets finished ", packets);
-    let sink = put_text(out, sink, b", ticks ");
-    let sink = put_number(out, sink, ticks);
-    put_byte(out, sink, 10)
+) -> usize {
+    let used = put_bytes_asked(page, used, largest, own);
+    let used = put_named(page, used, b", packets finished ", packets);
+    let used = put_text(page, used, b", ticks ");
+    let used = put_number(page, used, ticks);
+    put_byte(page, used, 10)
+}
+
+fn put_bytes_asked(page: &mut [u8], used: usize, largest: u32, own: u32) -> usize {
+    let used = put_named(page, used, b"own bytes ", own);
+    let used = put_named(page, used, b", largest packet ", largest);
+    let used = put_text(page, used, b", three packets ");
+    put_number(page, used, packets_bytes(largest))
 }
 
 // The bytes that a step adds.
@@ -80,8 +110,8 @@ fn packets_bytes(largest: u32) -> u64
 
 // Of a sending class its own bytes and its steps; of any other row nothing.
 fn put_row<'a>(
-    out: &mut [u8; 8192],
-    sink: Sink,
+    page: &mut [u8],
+    used: usize,
     sends: bool,
     largest: u32,
     own: u32,
@@ -91,18 +121,18 @@ fn put_row<'a>(
     depths: &'a [u32],
     shares: &'a [u32],
     row: u32,
-) -> Sink {
+) -> usize {
     if !sends {
-        return sink;
+        return used;
     }
-    let sink = put_named(out, sink, b"\nclass ", word(identifiers, row));
-    let sink = put_named(out, sink, b" (row ", row);
-    let sink = put_named(out, sink, b")\n  own bytes: ", own);
-    let sink = put_byte(out, sink, 10);
+    let used = put_named(page, used, b"\nclass ", word(identifiers, row));
+    let used = put_named(page, used, b" (row ", row);
+    let used = put_named(page, used, b")\n  own bytes: ", own);
+    let used = put_byte(page, used, 10);
     let depth = word(depths, row);
-    let sink = put_steps(
-        out,
-        sink,
+    let used = put_steps(
+        page,
+        used,
         largest,
         own,
         ticks,
@@ -112,13 +142,13 @@ fn put_row<'a>(
         row,
         depth,
     );
-    put_without_ticks(out, sink, largest, own, parents, shares, row, depth)
+    put_without_ticks(page, used, largest, own, parents, shares, row, depth)
 }
 
 // A line for each row from the class up to the root's child, as far as the working fits, and what comes of it.
 fn put_steps<'a>(
-    out: &mut [u8; 8192],
-    sink: Sink,
+    page: &mut [u8],
+    used: usize,
     largest: u32,
     own: u32,
     ticks: u64,
@@ -127,17 +157,17 @@ fn put_steps<'a>(
     shares: &'a [u32],
     row: u32,
     depth: u32,
-) -> Sink {
-    let mut sink = sink;
+) -> usize {
+    let mut used = used;
     let mut figure = sheet::after(0, parents, shares, row, largest, own, ticks);
     let mut at = row;
     let mut step = 0;
     while step < depth {
         step += 1;
         let next = sheet::after(step, parents, shares, row, largest, own, ticks);
-        sink = put_step(
-            out,
-            sink,
+        used = put_step(
+            page,
+            used,
             word(identifiers, at),
             figure,
             largest,
@@ -146,103 +176,108 @@ fn put_steps<'a>(
             next,
         );
         if !next.fits {
-            return sink;
+            return used;
         }
         figure = next;
         at = word(parents, at);
     }
-    put_last(out, sink, figure)
+    put_last(page, used, figure)
 }
 
-fn put_last(out: &mut [u8; 8192], sink: Sink, figure: Figure) -> Sink {
-    let sink = put_text(out, sink, b"  the line finishes at most ");
-    put_bytes(out, sink, figure)
+fn put_last(page: &mut [u8], used: usize, figure: Figure) -> usize {
+    let used = put_text(page, used, b"  the line finishes at most ");
+    put_bytes(page, used, figure)
 }
 
 // Where no charge on the way is rounded, what comes of the steps without their ticks, as far as that fits.
 fn put_without_ticks<'a>(
-    out: &mut [u8; 8192],
-    sink: Sink,
+    page: &mut [u8],
+    used: usize,
     largest: u32,
     own: u32,
     parents: &'a [u32],
     shares: &'a [u32],
     row: u32,
     depth: u32,
-) -> Sink {
+) -> usize {
     if !sheet::all_divide(depth, parents, shares, row) {
-        return sink;
+        return used;
     }
     let figure = sheet::after(depth, parents, shares, row, largest, own, 0);
     if !figure.fits {
-        return sink;
+        return used;
     }
-    let sink = put_named(
-        out,
-        sink,
+    let used = put_named(
+        page,
+        used,
         b"  without ticks, since each share above divides ",
         SCALE,
     );
-    let sink = put_text(out, sink, b": at most ");
-    put_bytes(out, sink, figure)
+    let used = put_text(page, used, b": at most ");
+    put_bytes(page, used, figure)
 }
 
 // One step up: a row's class, the figure before, the largest packets, the row's share, the ticks, the figure after.
 fn put_step(
-    out: &mut [u8; 8192],
-    sink: Sink,
+    page: &mut [u8],
+    used: usize,
     class: u32,
     before: Figure,
     largest: u32,
     share: u32,
     ticks: u64,
     after: Figure,
-) -> Sink {
-    let sink = put_named(out, sink, b"  class ", class);
-    let sink = put_text(out, sink, b": (");
-    let sink = put_figure(out, sink, before);
-    let sink = put_text(out, sink, b" + ");
-    let sink = put_number(out, sink, packets_bytes(largest));
-    let sink = put_named(out, sink, b") * ", WHOLE);
-    let sink = put_named(out, sink, b" / ", share);
-    let sink = put_text(out, sink, b" + ");
-    let sink = put_number(out, sink, ticks);
-    let sink = put_named(out, sink, b" / ", TICKS);
-    let sink = put_text(out, sink, b" = ");
-    put_result(out, sink, after)
+) -> usize {
+    let used = put_named(page, used, b"  class ", class);
+    let used = put_text(page, used, b": (");
+    let used = put_figure(page, used, before);
+    let used = put_text(page, used, b" + ");
+    let used = put_number(page, used, packets_bytes(largest));
+    let used = put_divided(page, used, share, ticks);
+    put_result(page, used, after)
+}
+
+// What a step does with the bytes: over the share, and with the ticks.
+fn put_divided(page: &mut [u8], used: usize, share: u32, ticks: u64) -> usize {
+    let used = put_named(page, used, b") * ", WHOLE);
+    let used = put_named(page, used, b" / ", share);
+    let used = put_text(page, used, b" + ");
+    let used = put_number(page, used, ticks);
+    let used = put_named(page, used, b" / ", TICKS);
+    put_text(page, used, b" = ")
 }
 
 // The figure after a step, or that there is none.
-fn put_result(out: &mut [u8; 8192], sink: Sink, figure: Figure) -> Sink {
+fn put_result(page: &mut [u8], used: usize, figure: Figure) -> usize {
     if figure.fits {
-        let sink = put_figure(out, sink, figure);
-        return put_byte(out, sink, 10);
+        let used = put_figure(page, used, figure);
+        return put_byte(page, used, 10);
     }
-    let sink = put_text(out, sink, b"outgrown\n");
+    let used = put_text(page, used, b"outgrown\n");
     put_text(
-        out,
-        sink,
+        page,
+        used,
         b"  the line: no number, since the working outgrows 64 bits\n",
     )
 }
 
-fn put_figure(out: &mut [u8; 8192], sink: Sink, figure: Figure) -> Sink {
-    let sink = put_number(out, sink, figure.numerator);
+fn put_figure(page: &mut [u8], used: usize, figure: Figure) -> usize {
+    let used = put_number(page, used, figure.numerator);
     if figure.denominator == 1 {
-        return sink;
+        return used;
     }
-    let sink = put_byte(out, sink, 47);
-    put_number(out, sink, figure.denominator)
+    let used = put_byte(page, used, 47);
+    put_number(page, used, figure.denominator)
 }
 
 // A figure as bytes, and rounded up where it is a fraction.
-fn put_bytes(out: &mut [u8; 8192], sink: Sink, figure: Figure) -> Sink {
-    let sink = put_figure(out, sink, figure);
-    let sink = put_text(out, sink, b" bytes");
+fn put_bytes(page: &mut [u8], used: usize, figure: Figure) -> usize {
+    let used = put_figure(page, used, figure);
+    let used = put_text(page, used, b" bytes");
     if figure.denominator == 1 {
-        return put_byte(out, sink, 10);
+        return put_byte(page, used, 10);
     }
-    let sink = put_text(out, sink, b", rounded up ");
-    let sink = put_number(out, sink, sheet::whole_bytes(figure));
-    put_byte(out, sink, 10)
+    let used = put_text(page, used, b", rounded up ");
+    let used = put_number(page, used, sheet::whole_bytes(figure));
+    put_byte(page, used, 10)
 }

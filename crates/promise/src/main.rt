@@ -7,18 +7,16 @@ mod lines;
 
 use asked::Asked;
 use files::first;
-use files::load;
+use files::hand_over;
+use files::load_table;
+use files::print_answer;
 use input::Answer;
 use input::MOST_EVENTS;
 use input::Refusal;
 use libc::STDERR_FILENO;
 use libc::STDOUT_FILENO;
-use output::flush;
-use output::onto;
-use output::put_text;
 use sentences::HELD_ROWS;
 use text::Field;
-use text::Kind;
 
 fn main() {
     let count = os::arg_count();
@@ -50,13 +48,10 @@ fn main() {
 }
 
 fn usage() {
-    let mut out = [0u8; 8192];
-    let sink = put_text(
-        &mut out,
-        onto(STDOUT_FILENO),
+    io::write_all(
+        STDOUT_FILENO,
         b"cannot read: give a class table and the largest packet, promise TABLE LARGEST [OWN [PACKETS]]\n",
     );
-    flush(&mut out, sink);
 }
 
 // An argument as a number. The longest that the system passes has 131,071 bytes.
@@ -71,7 +66,7 @@ fn with_numbers(largest: u32, own: u32, packets: u32) {
     let mut identifiers = [0u32; HELD_ROWS];
     let mut parents = [0u32; HELD_ROWS];
     let mut shares = [0u32; HELD_ROWS];
-    let table = load(1, Kind::Table, &mut identifiers, &mut parents, &mut shares);
+    let table = load_table(1, &mut identifiers, &mut parents, &mut shares);
     if table.good {
         with_table(
             largest,
@@ -126,25 +121,23 @@ fn refused<'a>(
     parents: &'a [u32],
     shares: &'a [u32],
 ) {
-    let mut out = [0u8; 8192];
     let answer = Answer {
         number: refusal.number,
         place: refusal.place,
         second: refusal.second,
         count: 0,
     };
-    let sink = sentences::put_answer(&mut out, onto(STDOUT_FILENO), answer);
-    let answered = flush(&mut out, sink);
-    if answered.good {
-        let sink = sentences::table_sentence(
-            &mut out,
-            onto(STDERR_FILENO),
+    if print_answer(answer) {
+        let mut page = [0u8; 1024];
+        let used = sentences::table_sentence(
+            &mut page,
+            0,
             answer,
             rows,
             identifiers,
             parents,
             shares,
         );
-        flush(&mut out, sink);
+        hand_over(STDERR_FILENO, &page, used);
     }
 }

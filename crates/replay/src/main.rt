@@ -1,22 +1,24 @@
 // replay TABLE EVENTS: reads a class table and a list of events, replays them, and prints the answer, the order and the report with
 // the lags; or says what cannot be read; or, to standard error, what a refusal names and how to mend it.
-mod results;
-
+ghost use mathlib.Core.Path.{_≡_};
+ghost use lib.ListN.{length};
 use choosing::Way;
 use files::first;
+use files::hand_over;
 use files::load;
+use files::load_table;
 use input::Answer;
 use input::MOST_EVENTS;
 use input::REPORT_WORDS;
 use libc::STDERR_FILENO;
 use libc::STDOUT_FILENO;
-use output::flush;
-use output::onto;
-use output::put_text;
 use sentences::HELD_ROWS;
 
 // One more than a run takes, so that it refuses a longer list.
 const HELD_EVENTS: usize = MOST_EVENTS + 1;
+
+// Room for the text of any run of so many events and rows (`Room: run-room` of the crate `forms`).
+const RUN_BYTES: usize = 1480252;
 
 fn main() {
     if os::arg_count() != 3 {
@@ -26,13 +28,7 @@ fn main() {
     let mut identifiers = [0u32; HELD_ROWS];
     let mut parents = [0u32; HELD_ROWS];
     let mut shares = [0u32; HELD_ROWS];
-    let table = load(
-        1,
-        text::Kind::Table,
-        &mut identifiers,
-        &mut parents,
-        &mut shares,
-    );
+    let table = load_table(1, &mut identifiers, &mut parents, &mut shares);
     if table.good {
         with_table(
             table.rows,
@@ -47,14 +43,7 @@ fn main() {
 fn with_table<'a>(rows: u64, identifiers: &'a [u32], parents: &'a [u32], shares: &'a [u32]) {
     let mut classes = [0u32; HELD_EVENTS];
     let mut lengths = [0u32; HELD_EVENTS];
-    let mut unused = [0u32; 1];
-    let events = load(
-        2,
-        text::Kind::Events,
-        &mut classes,
-        &mut lengths,
-        &mut unused,
-    );
+    let events = load(2, &mut classes, &mut lengths);
     if events.good {
         replay(
             rows,
@@ -69,13 +58,10 @@ fn with_table<'a>(rows: u64, identifiers: &'a [u32], parents: &'a [u32], shares:
 }
 
 fn usage() {
-    let mut out = [0u8; 8192];
-    let sink = put_text(
-        &mut out,
-        onto(STDOUT_FILENO),
+    io::write_all(
+        STDOUT_FILENO,
         b"cannot read: give a class table and an event list, replay TABLE EVENTS\n",
     );
-    flush(&mut out, sink);
 }
 
 // Runs the events and prints what came of it. The counts are those of the files, of which the slices may have less.
@@ -104,8 +90,7 @@ fn replay<'a>(
         &mut lags,
         &mut working,
     );
-    let printed = results::print(answer, identifiers, &order, &report, &lags);
-    if printed {
+    if print(answer, identifiers, &order, &report, &lags) {
         explain(
             answer,
             rows,
@@ -117,6 +102,26 @@ fn replay<'a>(
             lengths,
         );
     }
+}
+
+// Prints the answer and, of a done run, the results, and answers whether all of it was written.
+fn print<'a>(
+    answer: Answer,
+    identifiers: &'a [u32],
+    order: &'a [u32],
+    report: &'a [u64],
+    lags: &'a [i64],
+) -> bool {
+    let mut page = blank();
+    let used = lines::put_run(&mut page, 0, answer, identifiers, order, report, lags);
+    hand_over(STDOUT_FILENO, &page, used)
+}
+
+// A page with nothing on it. Its length is all that lending it needs, and a proof that looks at more would count all its bytes.
+fn blank() -> [u8; RUN_BYTES]
+    ensures { λ r. ⌜ 1480252 ≡ length r ⌝ }
+{
+    [0; RUN_BYTES]
 }
 
 // A refusal as a sentence, to standard error; of a done run, nothing.
@@ -133,10 +138,10 @@ fn explain<'a>(
     if answer.number == 0 {
         return;
     }
-    let mut out = [0u8; 8192];
-    let sink = sentences::sentence(
-        &mut out,
-        onto(STDERR_FILENO),
+    let mut page = [0u8; 1024];
+    let used = sentences::sentence(
+        &mut page,
+        0,
         answer,
         rows,
         events,
@@ -146,5 +151,5 @@ fn explain<'a>(
         classes,
         lengths,
     );
-    flush(&mut out, sink);
+    hand_over(STDERR_FILENO, &page, used);
 }

@@ -1,2 +1,3 @@
--- What a sentence names. A reader must believe these definitions; nothing here is code.
+-- What a sentence says and names. A reader must believe these definitions; nothing here is code.
+pub mod Filled
 pub mod Named

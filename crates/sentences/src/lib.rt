@@ -1,9 +1,9 @@
-// What is said of an answer: its four numbers, and a refusal as one sentence for a person.
-mod answers;
-mod names;
+// What is said of an answer: a refusal, or the fault of a table's text, as one sentence for a person.
+mod faults;
 mod refusals;
+mod templates;
 
-pub use answers::put_answer;
+pub use faults::fault_sentence;
 use input::MOST_ROWS;
 pub use refusals::put_packet_bytes;
 pub use refusals::sentence;
@@ -11,3 +11,6 @@ pub use refusals::table_sentence;
 
 // The rows that a program holds: one more than a table may have, so that a row too many is seen.
 pub const HELD_ROWS: usize = MOST_ROWS + 1;
+
+// The bytes of a table's text that a program holds.
+pub const HELD_BYTES: usize = 65536;

@@ -1,12 +1,10 @@
 // A refusal as one sentence for a person: where it is and what to mend.
 ghost use mathlib.Core.Path.{_≡_};
-ghost use Prim.Native.Nat.{suc, _<_, _^_};
+ghost use Prim.Native.Nat.{suc, _+_, _<_, _^_};
 ghost use Rattle.input.specs.Limits.{most-rows};
 ghost use Rattle.sentences.specs.Named as named;
 use crate::HELD_ROWS;
-use crate::names::put_class;
-use crate::names::put_event;
-use crate::names::put_row;
+use crate::templates::fill;
 use input::Answer;
 use input::LEAST_BYTES;
 use input::LEAST_ROWS;
@@ -18,17 +16,14 @@ use input::MOST_IDENTIFIER;
 use input::MOST_ROWS;
 use input::WHOLE;
 use input::on_air;
-use output::Sink;
-use output::put_byte;
-use output::put_named;
-use output::put_number;
 use output::put_text;
+use words::long;
 use words::word;
 
 // A refusal of a run.
 pub fn sentence<'a>(
-    out: &mut [u8; 8192],
-    sink: Sink,
+    page: &mut [u8],
+    used: usize,
     answer: Answer,
     rows: u64,
     events: u64,
@@ -37,223 +32,194 @@ pub fn sentence<'a>(
     shares: &'a [u32],
     classes: &'a [u32],
     lengths: &'a [u32],
-) -> Sink {
-    let sink = put_start(out, sink, answer.number);
-    let sink = of_table(out, sink, answer, rows, identifiers, parents, shares);
-    let sink = of_list(out, sink, answer.number, events);
-    let sink = of_events(
-        out,
-        sink,
-        answer.number,
-        answer.place,
-        identifiers,
-        classes,
-        lengths,
-    );
-    put_byte(out, sink, 10)
+) -> usize {
+    let number = answer.number;
+    match number {
+        2 => fill(
+            page,
+            used,
+            b"refused 2: the list has # events; give it at most #.\n",
+            &[events, MOST_EVENTS as u64],
+        ),
+        3 => put_text(
+            page,
+            used,
+            b"refused 3: a slice lent for the results is too short.\n",
+        ),
+        11..=14 => of_event(page, used, answer, identifiers, classes, lengths),
+        _ => table_sentence(page, used, answer, rows, identifiers, parents, shares),
+    }
 }
 
 // A refusal of a class table alone.
 pub fn table_sentence<'a>(
-    out: &mut [u8; 8192],
-    sink: Sink,
+    page: &mut [u8],
+    used: usize,
     answer: Answer,
     rows: u64,
     identifiers: &'a [u32],
     parents: &'a [u32],
     shares: &'a [u32],
-) -> Sink {
-    let sink = put_start(out, sink, answer.number);
-    let sink = of_table(out, sink, answer, rows, identifiers, parents, shares);
-    put_byte(out, sink, 10)
-}
-
-fn put_start(out: &mut [u8; 8192], sink: Sink, number: u32) -> Sink {
-    let sink = put_named(out, sink, b"refused ", number);
-    put_text(out, sink, b": ")
-}
-
-// 1, 4 to 10 and 15: the class table.
-fn of_table<'a>(
-    out: &mut [u8; 8192],
-    sink: Sink,
-    answer: Answer,
-    rows: u64,
-    identifiers: &'a [u32],
-    parents: &'a [u32],
-    shares: &'a [u32],
-) -> Sink {
+) -> usize {
     let number = answer.number;
-    let place = answer.place;
     match number {
-        1 => rows_wrong(out, sink, rows),
-        4 => zero(out, sink, place),
-        5 => repeated(out, sink, identifiers, place, answer.second),
-        6 => root(out, sink, identifiers, parents, shares),
-        7 => parent(out, sink, identifiers, parents, place),
-        8 => share(out, sink, identifiers, shares, place),
-        9 => deep(out, sink, identifiers, place),
-        10 => sum(out, sink, identifiers, parents, shares, place),
-        15 => large(out, sink, identifiers, place),
-        _ => sink,
+        1 => of_rows(page, used, rows),
+        4 | 5 | 15 => of_identifier(page, used, answer, identifiers),
+        6 => of_root(page, used, identifiers, parents, shares),
+        7 | 8 => of_class(page, used, answer, identifiers, parents, shares),
+        _ => of_depth(page, used, answer, identifiers, parents, shares),
     }
 }
 
-// 2 and 3: how long the list is, and the slices lent for the results.
-fn of_list(out: &mut [u8; 8192], sink: Sink, number: u32, events: u64) -> Sink {
-    match number {
-        2 => events_wrong(out, sink, events),
-        3 => put_text(out, sink, b"a slice lent for the results is too short."),
-        _ => sink,
+fn of_rows(page: &mut [u8], used: usize, rows: u64) -> usize {
+    if rows == 1 {
+        return fill(
+            page,
+            used,
+            b"refused 1: the table has 1 row; give it # to #.\n",
+            &[LEAST_ROWS as u64, MOST_ROWS as u64],
+        );
     }
-}
-
-// 11 to 14: the events.
-fn of_events<'a>(
-    out: &mut [u8; 8192],
-    sink: Sink,
-    number: u32,
-    place: u32,
-    identifiers: &'a [u32],
-    classes: &'a [u32],
-    lengths: &'a [u32],
-) -> Sink {
-    match number {
-        11 => no_class(out, sink, classes, place),
-        12 => not_sending(out, sink, identifiers, classes, place),
-        13 => length(out, sink, classes, lengths, place),
-        14 => idle(out, sink, place),
-        _ => sink,
-    }
-}
-
-fn rows_wrong(out: &mut [u8; 8192], sink: Sink, rows: u64) -> Sink {
-    let sink = put_text(out, sink, b"the table has ");
-    let sink = put_number(out, sink, rows);
-    let sink = if rows == 1 {
-        put_text(out, sink, b" row; give it ")
-    } else {
-        put_text(out, sink, b" rows; give it ")
-    };
-    let sink = put_number(out, sink, LEAST_ROWS as u64);
-    let sink = put_text(out, sink, b" to ");
-    let sink = put_number(out, sink, MOST_ROWS as u64);
-    put_byte(out, sink, 46)
-}
-
-fn events_wrong(out: &mut [u8; 8192], sink: Sink, events: u64) -> Sink {
-    let sink = put_text(out, sink, b"the list has ");
-    let sink = put_number(out, sink, events);
-    let sink = put_text(out, sink, b" events; give it at most ");
-    let sink = put_number(out, sink, MOST_EVENTS as u64);
-    put_byte(out, sink, 46)
-}
-
-fn zero(out: &mut [u8; 8192], sink: Sink, row: u32) -> Sink {
-    let sink = put_row(out, sink, row);
-    let sink = put_text(out, sink, b" has identifier 0");
-    put_identifiers(out, sink)
-}
-
-fn large(out: &mut [u8; 8192], sink: Sink, identifiers: &[u32], row: u32) -> Sink {
-    let identifier = word(identifiers, row);
-    let sink = put_row(out, sink, row);
-    let sink = put_named(out, sink, b" has identifier ", identifier);
-    let sink = put_text(out, sink, b", which the modem cuts to its low 16 bits, ");
-    let sink = put_number(out, sink, on_air(identifier) as u64);
-    put_identifiers(out, sink)
-}
-
-// Which identifiers there are to give.
-fn put_identifiers(out: &mut [u8; 8192], sink: Sink) -> Sink {
-    let sink = put_named(out, sink, b"; give it a number from 1 to ", MOST_IDENTIFIER);
-    put_byte(out, sink, 46)
-}
-
-fn repeated(out: &mut [u8; 8192], sink: Sink, identifiers: &[u32], row: u32, earlier: u32) -> Sink {
-    let sink = put_row(out, sink, row);
-    let sink = put_named(out, sink, b" repeats identifier ", word(identifiers, row));
-    let sink = put_text(out, sink, b" of ");
-    let sink = put_row(out, sink, earlier);
-    put_text(out, sink, b"; give one of the two another identifier.")
-}
-
-fn root<'a>(
-    out: &mut [u8; 8192],
-    sink: Sink,
-    identifiers: &'a [u32],
-    parents: &'a [u32],
-    shares: &'a [u32],
-) -> Sink {
-    let sink = put_class(out, sink, identifiers, 0);
-    let sink = put_named(
-        out,
-        sink,
-        b", is the line itself and has parent ",
-        word(parents, 0),
-    );
-    let sink = put_named(out, sink, b" and share ", word(shares, 0));
-    put_text(out, sink, b"; set both to 0.")
-}
-
-fn parent<'a>(
-    out: &mut [u8; 8192],
-    sink: Sink,
-    identifiers: &'a [u32],
-    parents: &'a [u32],
-    row: u32,
-) -> Sink {
-    let sink = put_class(out, sink, identifiers, row);
-    let sink = put_named(out, sink, b", has parent ", word(parents, row));
-    put_text(
-        out,
-        sink,
-        b", which is no earlier row's identifier; name the identifier of a row above it.",
+    fill(
+        page,
+        used,
+        b"refused 1: the table has # rows; give it # to #.\n",
+        &[rows, LEAST_ROWS as u64, MOST_ROWS as u64],
     )
 }
 
-fn share<'a>(
-    out: &mut [u8; 8192],
-    sink: Sink,
-    identifiers: &'a [u32],
-    shares: &'a [u32],
-    row: u32,
-) -> Sink {
-    let sink = put_class(out, sink, identifiers, row);
-    let sink = put_named(out, sink, b", has share ", word(shares, row));
-    let sink = put_named(out, sink, b"; give it a share from ", LEAST_SHARE);
-    let sink = put_named(out, sink, b" to ", WHOLE);
-    put_byte(out, sink, 46)
+// 4, 5 and 15: 0, one that an earlier row has, and one too large.
+fn of_identifier(page: &mut [u8], used: usize, answer: Answer, identifiers: &[u32]) -> usize {
+    let number = answer.number;
+    let row = long(answer.place);
+    let line = line_of(answer.place);
+    let earlier = long(answer.second);
+    let identifier = word(identifiers, answer.place);
+    match number {
+        4 => fill(
+            page,
+            used,
+            b"refused 4: row # (line #) has identifier 0; give it a number from 1 to #.\n",
+            &[row, line, MOST_IDENTIFIER as u64],
+        ),
+        5 => fill(
+            page,
+            used,
+            b"refused 5: row # (line #) repeats identifier # of row # (line #); give one of the two another identifier.\n",
+            &[row, line, long(identifier), earlier, line_of(answer.second)],
+        ),
+        15 => fill(
+            page,
+            used,
+            b"refused 15: row # (line #) has identifier #, which the modem cuts to its low 16 bits, #; give it a number from 1 to #.\n",
+            &[
+                row,
+                line,
+                long(identifier),
+                on_air(identifier) as u64,
+                MOST_IDENTIFIER as u64,
+            ],
+        ),
+        _ => used,
+    }
 }
 
-// The first row too deep is just one below the deepest allowed.
-fn deep(out: &mut [u8; 8192], sink: Sink, identifiers: &[u32], row: u32) -> Sink {
-    let sink = put_class(out, sink, identifiers, row);
-    let sink = put_named(out, sink, b", has depth ", MOST_DEPTH + 1);
-    let sink = put_named(
-        out,
-        sink,
-        b"; put it under a class of depth ",
-        MOST_DEPTH - 1,
-    );
-    put_text(out, sink, b" or less.")
-}
-
-fn sum<'a>(
-    out: &mut [u8; 8192],
-    sink: Sink,
+fn of_root<'a>(
+    page: &mut [u8],
+    used: usize,
     identifiers: &'a [u32],
     parents: &'a [u32],
     shares: &'a [u32],
-    row: u32,
-) -> Sink {
-    let sum = children_share(word(identifiers, row), parents, shares);
-    let sink = put_text(out, sink, b"the children of ");
-    let sink = put_class(out, sink, identifiers, row);
-    let sink = put_text(out, sink, b", have shares that add up to ");
-    let sink = put_number(out, sink, sum);
-    let sink = put_named(out, sink, b"; bring them to ", WHOLE);
-    put_text(out, sink, b" or less.")
+) -> usize {
+    fill(
+        page,
+        used,
+        b"refused 6: row 0 (line 2), class #, is the line itself and has parent # and share #; set both to 0.\n",
+        &[
+            long(word(identifiers, 0)),
+            long(word(parents, 0)),
+            long(word(shares, 0)),
+        ],
+    )
+}
+
+// 7 and 8: the parent and the share of a class.
+fn of_class<'a>(
+    page: &mut [u8],
+    used: usize,
+    answer: Answer,
+    identifiers: &'a [u32],
+    parents: &'a [u32],
+    shares: &'a [u32],
+) -> usize {
+    let number = answer.number;
+    let row = long(answer.place);
+    let line = line_of(answer.place);
+    let class = word(identifiers, answer.place);
+    match number {
+        7 => fill(
+            page,
+            used,
+            b"refused 7: row # (line #), class #, has parent #, which is no earlier row's identifier; name the identifier of a row above it.\n",
+            &[row, line, long(class), long(word(parents, answer.place))],
+        ),
+        8 => fill(
+            page,
+            used,
+            b"refused 8: row # (line #), class #, has share #; give it a share from # to #.\n",
+            &[
+                row,
+                line,
+                long(class),
+                long(word(shares, answer.place)),
+                LEAST_SHARE as u64,
+                WHOLE as u64,
+            ],
+        ),
+        _ => used,
+    }
+}
+
+// 9 and 10: a class too deep, the first of which is just one below the deepest allowed, and children with too much.
+fn of_depth<'a>(
+    page: &mut [u8],
+    used: usize,
+    answer: Answer,
+    identifiers: &'a [u32],
+    parents: &'a [u32],
+    shares: &'a [u32],
+) -> usize {
+    let number = answer.number;
+    let row = long(answer.place);
+    let line = line_of(answer.place);
+    let class = word(identifiers, answer.place);
+    match number {
+        9 => fill(
+            page,
+            used,
+            b"refused 9: row # (line #), class #, has depth #; put it under a class of depth # or less.\n",
+            &[
+                row,
+                line,
+                long(class),
+                MOST_DEPTH as u64 + 1,
+                MOST_DEPTH as u64 - 1,
+            ],
+        ),
+        10 => fill(
+            page,
+            used,
+            b"refused 10: the children of row # (line #), class #, have shares that add up to #; bring them to # or less.\n",
+            &[
+                row,
+                line,
+                long(class),
+                children_share(class, parents, shares),
+                WHOLE as u64,
+            ],
+        ),
+        _ => used,
+    }
 }
 
 // The shares of the rows with this parent together.
@@ -279,33 +245,35 @@ fn share_under(identifier: u32, parent: u32, share: u32) -> u64
     }
 }
 
-fn no_class(out: &mut [u8; 8192], sink: Sink, classes: &[u32], event: u32) -> Sink {
-    let sink = put_event(out, sink, event);
-    let sink = put_named(out, sink, b" is for class ", word(classes, event));
-    put_text(out, sink, b", which no row has; name a class of the table.")
-}
-
-fn not_sending<'a>(
-    out: &mut [u8; 8192],
-    sink: Sink,
+// 11 to 14.
+fn of_event<'a>(
+    page: &mut [u8],
+    used: usize,
+    answer: Answer,
     identifiers: &'a [u32],
     classes: &'a [u32],
-    event: u32,
-) -> Sink {
+    lengths: &'a [u32],
+) -> usize {
+    let number = answer.number;
+    let event = answer.place;
     let class = word(classes, event);
-    let sink = put_event(out, sink, event);
-    let sink = put_named(out, sink, b" is for class ", class);
-    let sink = put_why(out, sink, row_with(identifiers, class));
-    put_text(out, sink, b"; name a class with no class below it.")
-}
-
-fn put_why(out: &mut [u8; 8192], sink: Sink, row: u32) -> Sink {
-    let sink = put_text(out, sink, b", ");
-    let sink = put_row(out, sink, row);
-    if row == 0 {
-        return put_text(out, sink, b", which is the line itself");
+    match number {
+        11 => fill(
+            page,
+            used,
+            b"refused 11: event # (line #) is for class #, which no row has; name a class of the table.\n",
+            &[long(event), line_of(event), long(class)],
+        ),
+        12 => not_sending(page, used, event, class, row_with(identifiers, class)),
+        13 => of_length(page, used, event, class, word(lengths, event)),
+        14 => fill(
+            page,
+            used,
+            b"refused 14: event # (line #) is a finish while the line is idle; take it out or put an arrival before it.\n",
+            &[long(event), line_of(event)],
+        ),
+        _ => used,
     }
-    put_text(out, sink, b", which has classes below it")
 }
 
 // The row with this identifier.
@@ -319,47 +287,67 @@ fn row_with(identifiers: &[u32], identifier: u32) -> u32
     0
 }
 
-fn length<'a>(
-    out: &mut [u8; 8192],
-    sink: Sink,
-    classes: &'a [u32],
-    lengths: &'a [u32],
-    event: u32,
-) -> Sink {
-    let class = word(classes, event);
-    let length = word(lengths, event);
-    let sink = put_event(out, sink, event);
-    if class == 0 {
-        return of_finish(out, sink, length);
+// 12, of an event for the class of this row.
+fn not_sending(page: &mut [u8], used: usize, event: u32, class: u32, row: u32) -> usize {
+    if row == 0 {
+        return fill(
+            page,
+            used,
+            b"refused 12: event # (line #) is for class #, row 0 (line 2), which is the line itself; name a class with no class below it.\n",
+            &[long(event), line_of(event), long(class)],
+        );
     }
-    of_packet(out, sink, class, length)
+    fill(
+        page,
+        used,
+        b"refused 12: event # (line #) is for class #, row # (line #), which has classes below it; name a class with no class below it.\n",
+        &[
+            long(event),
+            line_of(event),
+            long(class),
+            long(row),
+            line_of(row),
+        ],
+    )
 }
 
-fn of_finish(out: &mut [u8; 8192], sink: Sink, length: u32) -> Sink {
-    let sink = put_named(out, sink, b" is a finish with length ", length);
-    put_text(out, sink, b"; a finish has length 0.")
-}
-
-fn of_packet(out: &mut [u8; 8192], sink: Sink, class: u32, length: u32) -> Sink {
-    let sink = put_named(out, sink, b", for class ", class);
-    let sink = put_named(out, sink, b", has length ", length);
-    let sink = put_text(out, sink, b"; ");
-    let sink = put_packet_bytes(out, sink);
-    put_byte(out, sink, 46)
+fn of_length(page: &mut [u8], used: usize, event: u32, class: u32, length: u32) -> usize {
+    if class == 0 {
+        return fill(
+            page,
+            used,
+            b"refused 13: event # (line #) is a finish with length #; a finish has length 0.\n",
+            &[long(event), line_of(event), long(length)],
+        );
+    }
+    fill(
+        page,
+        used,
+        b"refused 13: event # (line #), for class #, has length #; a packet has # to # bytes.\n",
+        &[
+            long(event),
+            line_of(event),
+            long(class),
+            long(length),
+            LEAST_BYTES as u64,
+            MOST_BYTES as u64,
+        ],
+    )
 }
 
 // How many bytes a packet may have.
-pub fn put_packet_bytes(out: &mut [u8; 8192], sink: Sink) -> Sink {
-    let sink = put_named(out, sink, b"a packet has ", LEAST_BYTES);
-    let sink = put_named(out, sink, b" to ", MOST_BYTES);
-    put_text(out, sink, b" bytes")
+pub fn put_packet_bytes(page: &mut [u8], used: usize) -> usize {
+    fill(
+        page,
+        used,
+        b"a packet has # to # bytes",
+        &[LEAST_BYTES as u64, MOST_BYTES as u64],
+    )
 }
 
-fn idle(out: &mut [u8; 8192], sink: Sink, event: u32) -> Sink {
-    let sink = put_event(out, sink, event);
-    put_text(
-        out,
-        sink,
-        b" is a finish while the line is idle; take it out or put an arrival before it.",
-    )
+// A file has its heading in line 1, so place 0 is in line 2.
+fn line_of(place: u32) -> u64
+    ensures { λ r. ⌜ r ≡ place + 2 ⌝ }
+{
+    place as u64 + 2
 }

@@ -2,17 +2,15 @@
 -- Assumes nothing.
 use Prim.Native.Nat.{ℕ}
 use mathlib.Core.List.{List}
-use lib.IntN.{ℤ, natAbs}
 use Rattle.words.specs.Unique.{Unique}
 use Rattle.words.proofs.Determined.{determined}
-use Rattle.text.specs.declared.Kind.{Kind}
 use Rattle.text.specs.declared.Found.{Found}
 use Rattle.text.specs.declared.Scan.{Scan}
 use Rattle.text.specs.Reading.{field-of, unread, after, at-end, wrong}
-use Rattle.text.specs.Stated.{Begins, Feeds, Finishes, Faults, Numbers, Magnitudes}
+use Rattle.text.specs.Stated.{Begins, Feeds, Finishes, Faults, Numbers}
 
-pub one-beginning : (kind : Kind) → Unique (Begins kind)
-one-beginning kind = determined (unread kind)
+pub one-beginning : Unique Begins
+one-beginning = determined unread
 
 pub one-scan : (scan : Scan) (byte : ℕ) → Unique (Feeds scan byte)
 one-scan scan byte = determined (after scan byte)
@@ -25,6 +23,3 @@ one-fault found = determined (wrong found)
 
 pub one-number : (bytes : List ℕ) → Unique (Numbers bytes)
 one-number bytes = determined (field-of bytes)
-
-pub one-magnitude : (n : ℤ) → Unique (Magnitudes n)
-one-magnitude n = determined (natAbs n)

@@ -3,7 +3,6 @@
 use Prim.Native.Nat.{ℕ}
 use mathlib.Core.Path.{_≡_, refl}
 use mathlib.Core.List.{List, [], _∷_, _++_, map}
-use Rattle.text.specs.declared.Kind.the-variants.{Table, Events}
 use Rattle.text.specs.declared.Found.{Found}
 use Rattle.text.specs.declared.Found.the-variants.{Nothing, Row, NoEnd, WrongHeading, WrongCount, NoNumber, TooLarge}
 use Rattle.text.specs.declared.Scan.{Scan}
@@ -20,7 +19,7 @@ read scan = record { last = scan .found; end = Reading.at-end scan; lines = scan
 
 -- a list of events with these bytes under its heading
 events : List ℕ → Read
-events bytes = read (Reading.after-all (Reading.unread Events) (Reading.event-heading ++ (10 ∷ bytes)))
+events bytes = read (Reading.after-all Reading.unread (Reading.heading ++ (10 ∷ bytes)))
 
 files : List (List ℕ)
 files =
@@ -49,8 +48,8 @@ files =
 found : List Read
 found =
     record { last = Nothing; end = Nothing; lines = 1 }
-    ∷ record { last = Row 7 42 0; end = Nothing; lines = 2 }
-    ∷ record { last = Row 7 42 0; end = Nothing; lines = 2 }
+    ∷ record { last = Row 7 42; end = Nothing; lines = 2 }
+    ∷ record { last = Row 7 42; end = Nothing; lines = 2 }
     ∷ record { last = Nothing; end = NoEnd; lines = 1 }
     ∷ record { last = Nothing; end = NoEnd; lines = 1 }
     ∷ record { last = NoNumber 2; end = NoNumber 2; lines = 1 }
@@ -62,34 +61,34 @@ found =
     ∷ record { last = NoNumber 2; end = NoNumber 2; lines = 1 }
     ∷ record { last = TooLarge 1; end = TooLarge 1; lines = 1 }
     ∷ record { last = NoNumber 1; end = NoNumber 1; lines = 1 }
-    ∷ record { last = Row 7 0 0; end = Nothing; lines = 3 }
+    ∷ record { last = Row 7 0; end = Nothing; lines = 3 }
     ∷ []
 
 worked : map events files ≡ found
-unfolding read events files found Reading.table-heading Reading.event-heading Reading.with-digit Reading.with-byte Reading.agreed-with
+unfolding read events files found Reading.heading Reading.with-digit Reading.with-byte Reading.agreed-with
     Reading.commas-with Reading.field-with Reading.grown Reading.settled Reading.longer Reading.heading-shown Reading.number-in
-    Reading.from-third Reading.from-second Reading.numbers Reading.shown Reading.lines-after Reading.ended Reading.within Reading.after
+    Reading.from-second Reading.numbers Reading.shown Reading.lines-after Reading.ended Reading.within Reading.after
     Reading.at-end Reading.after-all
 worked = refl
 
--- a table: nothing at all; its heading and no line end; the other heading; 1,0,0 under its own
-tables : List (List ℕ)
-tables =
+-- nothing at all; the heading and no line end; another heading; 1,0 under the heading with a CR LF
+whole-files : List (List ℕ)
+whole-files =
     []
-    ∷ Reading.table-heading
-    ∷ (Reading.event-heading ++ (10 ∷ []))
-    ∷ (Reading.table-heading ++ (13 ∷ 10 ∷ 49 ∷ 44 ∷ 48 ∷ 44 ∷ 48 ∷ 10 ∷ []))
+    ∷ Reading.heading
+    ∷ (120 ∷ 10 ∷ [])
+    ∷ (Reading.heading ++ (13 ∷ 10 ∷ 49 ∷ 44 ∷ 48 ∷ 10 ∷ []))
     ∷ []
 
-worked-tables :
-    map (λ (bytes : List ℕ). read (Reading.after-all (Reading.unread Table) bytes)) tables
+worked-whole :
+    map (λ (bytes : List ℕ). read (Reading.after-all Reading.unread bytes)) whole-files
     ≡ record { last = Nothing; end = WrongHeading; lines = 0 }
     ∷ record { last = Nothing; end = NoEnd; lines = 0 }
     ∷ record { last = WrongHeading; end = WrongHeading; lines = 0 }
-    ∷ record { last = Row 1 0 0; end = Nothing; lines = 2 }
+    ∷ record { last = Row 1 0; end = Nothing; lines = 2 }
     ∷ []
-unfolding read tables Reading.table-heading Reading.event-heading Reading.with-digit Reading.with-byte Reading.agreed-with
+unfolding read whole-files Reading.heading Reading.with-digit Reading.with-byte Reading.agreed-with
     Reading.commas-with Reading.field-with Reading.grown Reading.settled Reading.longer Reading.heading-shown Reading.number-in
-    Reading.from-third Reading.from-second Reading.numbers Reading.shown Reading.lines-after Reading.ended Reading.within Reading.after
+    Reading.from-second Reading.numbers Reading.shown Reading.lines-after Reading.ended Reading.within Reading.after
     Reading.at-end Reading.after-all
-worked-tables = refl
+worked-whole = refl

@@ -1,11 +1,9 @@
--- How a table or a list of events is read, byte by byte.
+-- How a list of events is read, byte by byte.
 use Prim.Native.Nat.{ℕ, _+_, _-_, _*_, _^_, min}
 use mathlib.Core.Bool.{Bool, true, false, cond, _&&_}
 use mathlib.Core.List.{List, [], _∷_}
 use lib.Dec.{leb, ltb, eqb}
 use lib.ListN.{length, getD}
-use Rattle.text.specs.declared.Kind.{Kind}
-use Rattle.text.specs.declared.Kind.the-variants.{Table, Events}
 use Rattle.text.specs.declared.Field.{Field}
 use Rattle.text.specs.declared.Field.the-variants.{Empty, Number, Over, Other}
 use Rattle.text.specs.declared.Line.{Line}
@@ -31,19 +29,9 @@ digit-zero = 48
 abbrev pub digit-nine : ℕ
 digit-nine = 57
 
--- identifier,parent,share
-unfoldable pub table-heading : List ℕ
-table-heading =
-    105 ∷ 100 ∷ 101 ∷ 110 ∷ 116 ∷ 105 ∷ 102 ∷ 105 ∷ 101 ∷ 114 ∷ 44 ∷ 112 ∷ 97 ∷ 114 ∷ 101 ∷ 110 ∷ 116 ∷ 44
-    ∷ 115 ∷ 104 ∷ 97 ∷ 114 ∷ 101 ∷ []
-
 -- class,length
-unfoldable pub event-heading : List ℕ
-event-heading = 99 ∷ 108 ∷ 97 ∷ 115 ∷ 115 ∷ 44 ∷ 108 ∷ 101 ∷ 110 ∷ 103 ∷ 116 ∷ 104 ∷ []
-
-abbrev pub heading : Kind → List ℕ
-heading Table = table-heading
-heading Events = event-heading
+unfoldable pub heading : List ℕ
+heading = 99 ∷ 108 ∷ 97 ∷ 115 ∷ 115 ∷ 44 ∷ 108 ∷ 101 ∷ 110 ∷ 103 ∷ 116 ∷ 104 ∷ []
 
 -- ── a field ──
 
@@ -76,34 +64,33 @@ field-of bytes = with-bytes Empty bytes
 -- ── a line ──
 
 abbrev pub empty-line : Line
-empty-line = record { agreed = 0; commas = 0; first = Empty; second = Empty; third = Empty; held = false }
+empty-line = record { agreed = 0; commas = 0; first = Empty; second = Empty; held = false }
 
--- more than any heading has
+-- more than the heading has
 abbrev pub differs : ℕ
 differs = 99
 
 -- how many bytes a line has, as long as they are those of the heading
-unfoldable pub agreed-with : Kind → ℕ → ℕ → ℕ
-agreed-with kind agreed byte =
-    cond (ltb agreed (length (heading kind)) && eqb (getD (heading kind) agreed 0) byte) (agreed + 1) differs
+unfoldable pub agreed-with : ℕ → ℕ → ℕ
+agreed-with agreed byte =
+    cond (ltb agreed (length heading) && eqb (getD heading agreed 0) byte) (agreed + 1) differs
 
--- how many commas a line has, 3 for three or more
+-- how many commas a line has, 2 for two or more
 unfoldable pub commas-with : ℕ → ℕ → ℕ
-commas-with commas byte = cond (eqb byte comma) (min (commas + 1) 3) commas
+commas-with commas byte = cond (eqb byte comma) (min (commas + 1) 2) commas
 
 -- the field at a place, from 0: a byte belongs to it after as many commas
 unfoldable pub field-with : ℕ → ℕ → ℕ → Field → Field
 field-with commas byte place field = cond (eqb byte comma) field (cond (eqb commas place) (with-byte field byte) field)
 
 -- a line with one byte more that is part of it
-unfoldable pub grown : Kind → Line → ℕ → Line
-grown kind line byte =
+unfoldable pub grown : Line → ℕ → Line
+grown line byte =
     record {
-      agreed = agreed-with kind (line .agreed) byte;
+      agreed = agreed-with (line .agreed) byte;
       commas = commas-with (line .commas) byte;
       first = field-with (line .commas) byte 0 (line .first);
       second = field-with (line .commas) byte 1 (line .second);
-      third = field-with (line .commas) byte 2 (line .third);
       held = false;
     }
 
@@ -115,26 +102,25 @@ holding line =
       commas = line .commas;
       first = line .first;
       second = line .second;
-      third = line .third;
       held = true;
     }
 
 -- the line goes on, so a CR that was held back is part of it
-unfoldable pub settled : Kind → Line → Line
-settled kind line = cond (line .held) (grown kind line carriage-return) line
+unfoldable pub settled : Line → Line
+settled line = cond (line .held) (grown line carriage-return) line
 
 -- a line with one byte more, which is no LF
-unfoldable pub longer : Kind → Line → ℕ → Line
-longer kind line byte = cond (eqb byte carriage-return) (holding (settled kind line)) (grown kind (settled kind line) byte)
+unfoldable pub longer : Line → ℕ → Line
+longer line byte = cond (eqb byte carriage-return) (holding (settled line)) (grown (settled line) byte)
 
 -- ── what a line shows when it ends ──
 
-unfoldable pub heading-shown : Kind → ℕ → Found
-heading-shown kind agreed = cond (eqb agreed (length (heading kind))) Nothing WrongHeading
+unfoldable pub heading-shown : ℕ → Found
+heading-shown agreed = cond (eqb agreed (length heading)) Nothing WrongHeading
 
-abbrev pub wanted-commas : Kind → ℕ
-wanted-commas Table = 2
-wanted-commas Events = 1
+-- how many commas a line of numbers has
+abbrev pub wanted-commas : ℕ
+wanted-commas = 1
 
 -- what follows from the number in a field, or what is wrong with the field, by its place in the line, from 1
 unfoldable pub number-in : ℕ → Field → (ℕ → Found) → Found
@@ -143,32 +129,28 @@ number-in place (Number n) next = next n
 number-in place Over next = TooLarge place
 number-in place Other next = NoNumber place
 
-unfoldable pub from-third : Kind → Line → ℕ → ℕ → Found
-from-third Table line a b = number-in 3 (line .third) (Row a b)
-from-third Events line a b = Row a b 0
-
-unfoldable pub from-second : Kind → Line → ℕ → Found
-from-second kind line a = number-in 2 (line .second) (from-third kind line a)
+unfoldable pub from-second : Line → ℕ → Found
+from-second line a = number-in 2 (line .second) (Row a)
 
 -- the numbers of a line, or what is wrong with the first field that has none
-unfoldable pub numbers : Kind → Line → Found
-numbers kind line = number-in 1 (line .first) (from-second kind line)
+unfoldable pub numbers : Line → Found
+numbers line = number-in 1 (line .first) (from-second line)
 
 -- the first line is the heading, and any other has as many fields as it should, each a number
-unfoldable pub shown : Kind → ℕ → Line → Found
-shown kind lines line =
-    cond (eqb lines 0) (heading-shown kind (line .agreed))
-    (cond (eqb (line .commas) (wanted-commas kind)) (numbers kind line) WrongCount)
+unfoldable pub shown : ℕ → Line → Found
+shown lines line =
+    cond (eqb lines 0) (heading-shown (line .agreed))
+    (cond (eqb (line .commas) wanted-commas) (numbers line) WrongCount)
 
 -- ── a file ──
 
-abbrev pub unread : Kind → Scan
-unread kind = record { kind = kind; lines = 0; inside = false; line = empty-line; found = Nothing }
+abbrev pub unread : Scan
+unread = record { lines = 0; inside = false; line = empty-line; found = Nothing }
 
 -- something is wrong with the line
 abbrev pub wrong : Found → Bool
 wrong Nothing = false
-wrong (Row a b c) = false
+wrong (Row a b) = false
 wrong NoEnd = true
 wrong WrongHeading = true
 wrong WrongCount = true
@@ -182,12 +164,12 @@ lines-after lines found = cond (wrong found) lines (min (lines + 1) (2 ^ 63))
 -- the line ends: it shows what it shows, and another may begin
 unfoldable pub ended : Scan → Scan
 ended scan =
-    let found = shown (scan .kind) (scan .lines) (scan .line) in
-    record { kind = scan .kind; lines = lines-after (scan .lines) found; inside = false; line = empty-line; found = found }
+    let found = shown (scan .lines) (scan .line) in
+    record { lines = lines-after (scan .lines) found; inside = false; line = empty-line; found = found }
 
 unfoldable pub within : Scan → ℕ → Scan
 within scan byte =
-    record { kind = scan .kind; lines = scan .lines; inside = true; line = longer (scan .kind) (scan .line) byte; found = Nothing }
+    record { lines = scan .lines; inside = true; line = longer (scan .line) byte; found = Nothing }
 
 -- one byte more is read; once something is wrong, no byte changes that
 unfoldable pub after : Scan → ℕ → Scan

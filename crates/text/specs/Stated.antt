@@ -3,15 +3,13 @@ use Prim.Native.Nat.{ℕ}
 use mathlib.Core.Path.{_≡_}
 use mathlib.Core.Bool.{Bool}
 use mathlib.Core.List.{List}
-use lib.IntN.{ℤ, natAbs}
-use Rattle.text.specs.declared.Kind.{Kind}
 use Rattle.text.specs.declared.Field.{Field}
 use Rattle.text.specs.declared.Found.{Found}
 use Rattle.text.specs.declared.Scan.{Scan}
 use Rattle.text.specs.Reading.{field-of, unread, after, at-end, wrong}
 
-abbrev pub Begins : Kind → Scan → Type 0
-Begins kind r = r ≡ unread kind
+abbrev pub Begins : Scan → Type 0
+Begins r = r ≡ unread
 
 abbrev pub Feeds : Scan → ℕ → Scan → Type 0
 Feeds scan byte r = r ≡ after scan byte
@@ -24,6 +22,3 @@ Faults found r = r ≡ wrong found
 
 abbrev pub Numbers : List ℕ → Field → Type 0
 Numbers bytes r = r ≡ field-of bytes
-
-abbrev pub Magnitudes : ℤ → ℕ → Type 0
-Magnitudes n r = r ≡ natAbs n

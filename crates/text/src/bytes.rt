@@ -3,7 +3,6 @@ ghost use mathlib.Core.Path.{_≡_};
 ghost use Rattle.text.specs.Reading as reading;
 ghost use Rattle.text.specs.Stated.{Begins, Feeds, Finishes, Faults};
 use crate::Found;
-use crate::Kind;
 use crate::Scan;
 use crate::lines::empty;
 use crate::lines::longer;
@@ -13,12 +12,11 @@ use crate::shown::of_line;
 const MANY: u64 = 9223372036854775808;
 
 // Nothing is read yet.
-pub fn begin(kind: Kind) -> Scan
-    ensures { λ r. ⌜ Begins kind r ⌝ }
+pub fn begin() -> Scan
+    ensures { λ r. ⌜ Begins r ⌝ }
 {
     let line = empty();
     Scan {
-        kind,
         lines: 0,
         inside: false,
         line,
@@ -37,11 +35,9 @@ pub fn feed(scan: Scan, byte: u8) -> Scan
     if byte == 10 {
         return ended(scan);
     }
-    let kind = scan.kind;
     let before = scan.line;
-    let line = longer(kind, before, byte);
+    let line = longer(before, byte);
     Scan {
-        kind,
         lines: scan.lines,
         inside: true,
         line,
@@ -70,13 +66,11 @@ pub fn finish(scan: Scan) -> Found
 fn ended(scan: Scan) -> Scan
     ensures { λ r. ⌜ r ≡ reading.ended scan ⌝ }
 {
-    let kind = scan.kind;
     let whole = scan.line;
-    let found = of_line(kind, scan.lines, whole);
+    let found = of_line(scan.lines, whole);
     let lines = lines_after(scan.lines, found);
     let line = empty();
     Scan {
-        kind,
         lines,
         inside: false,
         line,
@@ -102,7 +96,6 @@ pub fn wrong(found: Found) -> bool
         Found::Row {
             first: _,
             second: _,
-            third: _,
         } => false,
         Found::NoEnd => true,
         Found::WrongHeading => true,

@@ -1,23 +1,15 @@
-// Reading a table or a list of events as text: byte by byte, by a scan that is a value.
+// Reading a list of events as text: byte by byte, by a scan that is a value.
 mod bytes;
 mod digits;
 mod heading;
 mod lines;
 mod shown;
-mod signed;
 
 pub use bytes::begin;
 pub use bytes::feed;
 pub use bytes::finish;
 pub use bytes::wrong;
 pub use digits::number;
-pub use signed::magnitude;
-
-// Which of the two files is read.
-pub enum Kind {
-    Table,
-    Events,
-}
 
 // A field as far as it is read: nothing yet, a number, digits that come to more than a number may be, or something else.
 pub enum Field {
@@ -27,22 +19,21 @@ pub enum Field {
     Other,
 }
 
-// A line as far as it is read: how many bytes of the heading it has, while it has no others; the commas, where 3 stands for three
-// or more; the first three fields; and whether a CR was read last, which is part of the line only if no LF follows.
+// A line as far as it is read: how many bytes of the heading it has, while it has no others; the commas, where 2 stands for two
+// or more; the first two fields; and whether a CR was read last, which is part of the line only if no LF follows.
 pub struct Line {
     pub agreed: u32,
     pub commas: u32,
     pub first: Field,
     pub second: Field,
-    pub third: Field,
     pub held: bool,
 }
 
-// What the byte read last has shown: nothing, a whole line of numbers (a list of events has no third), or what is wrong with the
-// line, and in which field, from 1.
+// What the byte read last has shown: nothing, a whole line of numbers, or what is wrong with the line, and in which field,
+// from 1.
 pub enum Found {
     Nothing,
-    Row { first: u32, second: u32, third: u32 },
+    Row { first: u32, second: u32 },
     NoEnd,
     WrongHeading,
     WrongCount,
@@ -52,7 +43,6 @@ pub enum Found {
 
 // A file as far as it is read: its good lines that have ended, whether it stands within a line, and that line.
 pub struct Scan {
-    pub kind: Kind,
     pub lines: u64,
     pub inside: bool,
     pub line: Line,

@@ -2,13 +2,12 @@
 ghost use mathlib.Core.Path.{_≡_};
 ghost use Rattle.text.specs.Reading as reading;
 use crate::Field;
-use crate::Kind;
 use crate::Line;
 use crate::digits::with_byte;
+use crate::heading::SIZE;
 use crate::heading::byte_at;
-use crate::heading::size;
 
-// What agreed says of a line that is no start of the heading: more than any heading has.
+// What agreed says of a line that is no start of the heading: more than the heading has.
 const DIFFERS: u32 = 99;
 
 pub fn empty() -> Line
@@ -19,28 +18,27 @@ pub fn empty() -> Line
         commas: 0,
         first: Field::Empty,
         second: Field::Empty,
-        third: Field::Empty,
         held: false,
     }
 }
 
 // The line with one byte more, which is no LF.
-pub fn longer(kind: Kind, line: Line, byte: u8) -> Line
-    ensures { λ r. ⌜ r ≡ reading.longer kind line byte ⌝ }
+pub fn longer(line: Line, byte: u8) -> Line
+    ensures { λ r. ⌜ r ≡ reading.longer line byte ⌝ }
 {
-    let sure = settled(kind, line);
+    let sure = settled(line);
     if byte == 13 {
         return holding(sure);
     }
-    grown(kind, sure, byte)
+    grown(sure, byte)
 }
 
 // The line with the CR that it holds, if it holds one: more of the line follows.
-fn settled(kind: Kind, line: Line) -> Line
-    ensures { λ r. ⌜ r ≡ reading.settled kind line ⌝ }
+fn settled(line: Line) -> Line
+    ensures { λ r. ⌜ r ≡ reading.settled line ⌝ }
 {
     if line.held {
-        return grown(kind, line, 13);
+        return grown(line, 13);
     }
     line
 }
@@ -51,31 +49,27 @@ fn holding(line: Line) -> Line
 {
     let first = line.first;
     let second = line.second;
-    let third = line.third;
     Line {
         agreed: line.agreed,
         commas: line.commas,
         first,
         second,
-        third,
         held: true,
     }
 }
 
 // The line with one byte more that is part of it.
-fn grown(kind: Kind, line: Line, byte: u8) -> Line
-    ensures { λ r. ⌜ r ≡ reading.grown kind line byte ⌝ }
+fn grown(line: Line, byte: u8) -> Line
+    ensures { λ r. ⌜ r ≡ reading.grown line byte ⌝ }
 {
     let commas = line.commas;
     let first = line.first;
     let second = line.second;
-    let third = line.third;
     Line {
-        agreed: agreed_with(kind, line.agreed, byte),
+        agreed: agreed_with(line.agreed, byte),
         commas: commas_with(commas, byte),
         first: field_with(commas, byte, 0, first),
         second: field_with(commas, byte, 1, second),
-        third: field_with(commas, byte, 2, third),
         held: false,
     }
 }
@@ -86,7 +80,7 @@ fn commas_with(commas: u32, byte: u8) -> u32
     if byte != 44 {
         return commas;
     }
-    if commas < 3 { commas + 1 } else { 3 }
+    if commas < 2 { commas + 1 } else { 2 }
 }
 
 // The field at this place: it grows where the line has come to it.
@@ -102,13 +96,13 @@ fn field_with(commas: u32, byte: u8, place: u32, field: Field) -> Field
     field
 }
 
-fn agreed_with(kind: Kind, agreed: u32, byte: u8) -> u32
-    ensures { λ r. ⌜ r ≡ reading.agreed-with kind agreed byte ⌝ }
+fn agreed_with(agreed: u32, byte: u8) -> u32
+    ensures { λ r. ⌜ r ≡ reading.agreed-with agreed byte ⌝ }
 {
-    if size(kind) <= agreed {
+    if SIZE <= agreed {
         return DIFFERS;
     }
-    if byte_at(kind, agreed) == byte {
+    if byte_at(agreed) == byte {
         return agreed + 1;
     }
     DIFFERS

@@ -1,4 +1,4 @@
-//! What a run answers: a number, two places and a count.
+//! What a run, or the reading or writing of a text, answers: a number, two places and a count.
 
 #[derive(Clone, Copy, Debug, PartialEq, Eq)]
 pub struct Answer {
@@ -9,7 +9,7 @@ pub struct Answer {
 }
 
 impl Answer {
-    /// The answer of an accepted run that put `count` packets on the line.
+    /// All is accepted; the count is of packets put on the line, of rows read or bytes written.
     pub(crate) fn done(count: usize) -> Answer {
         Answer {
             number: 0,
@@ -38,7 +38,7 @@ impl Answer {
     }
 }
 
-/// Rows, events and counts are all at most 65,536 wherever an answer names them.
+/// Rows, events, lines and counts are far below 2^32 wherever an answer names them.
 pub(crate) fn number_of(place: usize) -> u32 {
     u32::try_from(place).unwrap_or(u32::MAX)
 }

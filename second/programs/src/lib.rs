@@ -3,6 +3,7 @@
 
 mod answer;
 mod counts;
+mod csv;
 mod events;
 mod inside;
 mod print;
@@ -19,11 +20,12 @@ mod text;
 mod tree;
 
 pub use answer::Answer;
+pub use csv::{read_table, write_report, write_table};
 pub use events::MOST_BYTES;
 pub use inside::{Choices, Inside};
 pub use report::REPORT_WIDTH;
 pub use run::{inside, run, MOST_EVENTS, MOST_ROWS};
 pub use sentences::sentence;
 pub use shares::{charge, is_exact, UNIT_COST, WHOLE};
-pub use slices::{EventSlices, Lent, Room, TableSlices};
+pub use slices::{EventSlices, Lent, Room, TableRoom, TableSlices};
 pub use table::{MOST_DEPTH, MOST_IDENTIFIER};

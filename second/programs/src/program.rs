@@ -6,11 +6,16 @@ use std::fs;
 use std::io::{self, Write};
 use std::process::ExitCode;
 
+use crate::answer::Answer;
+use crate::csv::{self, Columns};
 use crate::print::{answer_text, results_text};
 use crate::run::run;
 use crate::sentences::sentence;
 use crate::slices::{EventSlices, Room, TableSlices};
-use crate::text::{read_columns, EVENT_HEADING, TABLE_HEADING};
+use crate::text;
+
+/// Bytes that are lent for a table's text.
+pub const MOST_TEXT: usize = 65_536;
 
 /// What goes to standard output and to standard error.
 #[derive(Debug, PartialEq, Eq)]
@@ -45,74 +50,66 @@ pub fn answer(respond: fn(&[OsString]) -> Response) -> ExitCode {
 
 /// Answers the arguments that follow the program's name.
 pub fn respond(arguments: &[OsString]) -> Response {
-    read_and_replay(arguments).unwrap_or_else(Response::plain)
+    read_and_replay(arguments).unwrap_or_else(|said| said)
 }
 
-/// The error is the line that says what cannot be read.
-fn read_and_replay(arguments: &[OsString]) -> Result<Response, Vec<u8>> {
+/// The error is what is said of arguments or files that are not taken to a run.
+fn read_and_replay(arguments: &[OsString]) -> Result<Response, Response> {
     let [table_file, event_file] = arguments else {
-        let line =
-            "cannot read: give a class table and an event list, second TABLE EVENTS\n".to_string();
-        return Err(line.into_bytes());
+        let line = b"cannot read: give a class table and an event list, second TABLE EVENTS\n";
+        return Err(Response::plain(line.to_vec()));
     };
     let table = read_table(table_file)?;
-    let events = read_file(event_file, EVENT_HEADING)?;
+    let [classes, lengths] = read_events(event_file)?;
     let events = EventSlices {
-        classes: &events[0],
-        lengths: &events[1],
+        classes: &classes,
+        lengths: &lengths,
     };
     Ok(replay(table.slices(), events))
 }
 
-/// The columns of a table file.
-pub(crate) struct TableColumns(Vec<Vec<u32>>);
-
-impl TableColumns {
-    pub(crate) fn slices(&self) -> TableSlices<'_> {
-        TableSlices {
-            identifiers: &self.0[0],
-            parents: &self.0[1],
-            shares: &self.0[2],
-        }
-    }
+/// The table in a file, or what is said of it.
+pub(crate) fn read_table(file: &OsStr) -> Result<Columns, Response> {
+    let bytes = read_file(file)?;
+    let lent = &bytes[..bytes.len().min(MOST_TEXT)];
+    csv::read(lent, bytes.len()).map_err(|fault| refusal(&fault.answer(), &fault.sentence(&bytes)))
 }
 
-pub(crate) fn read_table(file: &OsStr) -> Result<TableColumns, Vec<u8>> {
-    read_file(file, TABLE_HEADING).map(TableColumns)
-}
-
-fn read_file(file: &OsStr, heading: &str) -> Result<Vec<Vec<u32>>, Vec<u8>> {
-    let bytes =
-        fs::read(file).map_err(|_| cannot_read(file, ": it is missing or cannot be read"))?;
-    read_columns(&bytes, heading)
+fn read_events(file: &OsStr) -> Result<[Vec<u32>; 2], Response> {
+    text::read_events(&read_file(file)?)
         .map_err(|fault| cannot_read(file, &format!(", line {}: {}", fault.line, fault.what)))
 }
 
+fn read_file(file: &OsStr) -> Result<Vec<u8>, Response> {
+    fs::read(file).map_err(|_| cannot_read(file, ": it is missing or cannot be read"))
+}
+
 /// The file's name is printed as it was given, so this is bytes and not a string.
-fn cannot_read(file: &OsStr, rest: &str) -> Vec<u8> {
-    [
+fn cannot_read(file: &OsStr, rest: &str) -> Response {
+    let line = [
         b"cannot read ",
         file.as_encoded_bytes(),
         rest.as_bytes(),
         b"\n",
-    ]
-    .concat()
+    ];
+    Response::plain(line.concat())
+}
+
+/// The answer on standard output and its sentence on standard error.
+fn refusal(answer: &Answer, sentence: &str) -> Response {
+    Response {
+        output: answer_text(answer).into_bytes(),
+        error: format!("{sentence}\n").into_bytes(),
+    }
 }
 
 pub(crate) fn replay(table: TableSlices, events: EventSlices) -> Response {
     let mut room = Room::new(table.identifiers.len(), events.classes.len());
     let answer = run(table, events, room.lend());
-    let mut output = answer_text(&answer);
-    let mut error = String::new();
     if let Some(said) = sentence(&answer, &table, &events) {
-        error = format!("{said}\n");
-    } else {
-        let order = &room.order[..answer.count as usize];
-        let results = results_text(order, table.identifiers, &room.report, &room.lags);
-        output.push_str(&results);
+        return refusal(&answer, &said);
     }
-    Response {
-        output: output.into_bytes(),
-        error: error.into_bytes(),
-    }
+    let order = &room.order[..answer.count as usize];
+    let results = results_text(order, table.identifiers, &room.report, &room.lags);
+    Response::plain((answer_text(&answer) + &results).into_bytes())
 }

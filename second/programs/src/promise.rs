@@ -14,7 +14,7 @@ use crate::text::{read_number, NotRead};
 
 /// Answers the arguments that follow the program's name.
 pub fn respond(arguments: &[OsString]) -> Response {
-    read_and_work(arguments).unwrap_or_else(Response::plain)
+    read_and_work(arguments).unwrap_or_else(|said| said)
 }
 
 /// What a sheet is worked from, besides the table.
@@ -36,8 +36,8 @@ impl Numbers {
     }
 }
 
-/// The error is the line that says what cannot be read.
-fn read_and_work(arguments: &[OsString]) -> Result<Response, Vec<u8>> {
+/// The error is what is said of arguments or a file that no sheet is made of.
+fn read_and_work(arguments: &[OsString]) -> Result<Response, Response> {
     let (file, largest, rest) = match arguments {
         [file, largest, rest @ ..] if rest.len() <= 2 => (file, largest, rest),
         _ => {
@@ -56,7 +56,7 @@ fn read_and_work(arguments: &[OsString]) -> Result<Response, Vec<u8>> {
     Ok(refusal_or_sheet(&table.slices(), &numbers))
 }
 
-fn read_largest(argument: &OsStr) -> Result<u32, Vec<u8>> {
+fn read_largest(argument: &OsStr) -> Result<u32, Response> {
     match read_number(argument.as_encoded_bytes()) {
         Ok(largest) if (1..=MOST_BYTES).contains(&largest) => Ok(largest),
         Err(why @ NotRead::NotDecimal) => Err(cannot_read(" LARGEST", &format!("it is {why}"))),
@@ -67,7 +67,7 @@ fn read_largest(argument: &OsStr) -> Result<u32, Vec<u8>> {
     }
 }
 
-fn read_optional(name: &str, argument: Option<&OsString>, default: u32) -> Result<u32, Vec<u8>> {
+fn read_optional(name: &str, argument: Option<&OsString>, default: u32) -> Result<u32, Response> {
     let Some(argument) = argument else {
         return Ok(default);
     };
@@ -75,8 +75,8 @@ fn read_optional(name: &str, argument: Option<&OsString>, default: u32) -> Resul
     read.map_err(|why| cannot_read(name, &format!("it is {why}")))
 }
 
-fn cannot_read(what: &str, why: &str) -> Vec<u8> {
-    format!("cannot read{what}: {why}\n").into_bytes()
+fn cannot_read(what: &str, why: &str) -> Response {
+    Response::plain(format!("cannot read{what}: {why}\n").into_bytes())
 }
 
 /// A table that a run refuses is refused here in the same words.

@@ -45,13 +45,8 @@ pub fn inside(slices: TableSlices, events: EventSlices) -> Result<Inside, Answer
 
 /// Refusals 1, 2 and 3.
 fn check_lengths(table: &TableSlices, events: &EventSlices, lent: &Lent) -> Result<(), Answer> {
+    check_rows(table)?;
     let rows = table.identifiers.len();
-    if table.parents.len() != rows || table.shares.len() != rows {
-        return Err(Answer::refused(1, 0));
-    }
-    if !(LEAST_ROWS..=MOST_ROWS).contains(&rows) {
-        return Err(Answer::refused(1, 0));
-    }
     let count = events.classes.len();
     if events.lengths.len() != count || count > MOST_EVENTS {
         return Err(Answer::refused(2, 0));
@@ -62,6 +57,23 @@ fn check_lengths(table: &TableSlices, events: &EventSlices, lent: &Lent) -> Resu
         return Err(Answer::refused(3, 0));
     }
     Ok(())
+}
+
+/// Refusal 1.
+pub(crate) fn check_rows(table: &TableSlices) -> Result<(), Answer> {
+    let rows = table.identifiers.len();
+    if table.parents.len() != rows || table.shares.len() != rows {
+        return Err(Answer::refused(1, 0));
+    }
+    check_row_count(rows)
+}
+
+/// Refusal 1 for so many rows.
+pub(crate) fn check_row_count(rows: usize) -> Result<(), Answer> {
+    match (LEAST_ROWS..=MOST_ROWS).contains(&rows) {
+        true => Ok(()),
+        false => Err(Answer::refused(1, 0)),
+    }
 }
 
 /// Takes the events one after another, up to the first that is refused.

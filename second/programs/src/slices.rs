@@ -1,4 +1,4 @@
-//! The slices a caller lends to a run.
+//! The slices a caller lends.
 
 use crate::report::REPORT_WIDTH;
 
@@ -8,6 +8,14 @@ pub struct TableSlices<'a> {
     pub identifiers: &'a [u32],
     pub parents: &'a [u32],
     pub shares: &'a [u32],
+}
+
+/// Where the rows of a table that is read as text go.
+#[derive(Debug)]
+pub struct TableRoom<'a> {
+    pub identifiers: &'a mut [u32],
+    pub parents: &'a mut [u32],
+    pub shares: &'a mut [u32],
 }
 
 /// The event list, one word an event in each slice.

@@ -1,9 +1,9 @@
-//! Reading the two text files: a heading line, then lines of decimal numbers.
+//! Reading an event list: a heading line, then lines of decimal numbers, each with any line end.
 
 use std::fmt;
 
-pub const TABLE_HEADING: &str = "identifier,parent,share";
-pub const EVENT_HEADING: &str = "class,length";
+const HEADING: &str = "class,length";
+const COLUMNS: usize = 2;
 
 /// Why a file's bytes cannot be read.
 #[derive(Debug)]
@@ -13,16 +13,16 @@ pub struct Fault {
     pub what: String,
 }
 
-/// The numbers under the heading, column by column.
-pub fn read_columns(bytes: &[u8], heading: &str) -> Result<Vec<Vec<u32>>, Fault> {
-    let mut columns = vec![Vec::new(); heading.split(',').count()];
+/// The classes and the lengths under the heading.
+pub fn read_events(bytes: &[u8]) -> Result<[Vec<u32>; COLUMNS], Fault> {
+    let mut columns = [Vec::new(), Vec::new()];
     if bytes.is_empty() {
-        check_heading(bytes, heading).map_err(|what| Fault { line: 1, what })?;
+        check_heading(bytes).map_err(|what| Fault { line: 1, what })?;
     }
     for (index, line) in bytes.split_inclusive(|b| *b == b'\n').enumerate() {
         let read = match without_end(line) {
             None => Err("the line has no end".to_string()),
-            Some(body) if index == 0 => check_heading(body, heading),
+            Some(body) if index == 0 => check_heading(body),
             Some(body) => read_line(body, &mut columns),
         };
         read.map_err(|what| Fault {
@@ -39,17 +39,17 @@ fn without_end(line: &[u8]) -> Option<&[u8]> {
     Some(body.strip_suffix(b"\r").unwrap_or(body))
 }
 
-fn check_heading(body: &[u8], heading: &str) -> Result<(), String> {
-    if body != heading.as_bytes() {
-        return Err(format!("the heading must be {heading}"));
+fn check_heading(body: &[u8]) -> Result<(), String> {
+    if body != HEADING.as_bytes() {
+        return Err(format!("the heading must be {HEADING}"));
     }
     Ok(())
 }
 
-fn read_line(body: &[u8], columns: &mut [Vec<u32>]) -> Result<(), String> {
+fn read_line(body: &[u8], columns: &mut [Vec<u32>; COLUMNS]) -> Result<(), String> {
     let fields: Vec<&[u8]> = body.split(|b| *b == b',').collect();
-    if fields.len() != columns.len() {
-        return Err(format!("{} numbers are wanted", columns.len()));
+    if fields.len() != COLUMNS {
+        return Err(format!("{COLUMNS} numbers are wanted"));
     }
     for (index, (field, column)) in fields.iter().zip(columns).enumerate() {
         let number = read_number(field).map_err(|why| format!("field {} is {why}", index + 1))?;

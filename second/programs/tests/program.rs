@@ -3,7 +3,10 @@
 use std::fs;
 use std::path::{Path, PathBuf};
 
-use crate::common::files::{event_text, file, over_bytes, over_rows, printed, program, table_text};
+use crate::common::files::{
+    event_text, file, over_bytes, over_rows, printed, program, results, table_text, with_cr,
+    Printed,
+};
 use crate::common::{HALVES, P1_EVENTS};
 
 const P1_TEXT: &str = "\
@@ -20,13 +23,6 @@ identifier,bytes,start,finish,virtual,held,lag
 ";
 
 const USAGE: &str = "cannot read: give a class table and an event list, second TABLE EVENTS\n";
-
-/// Runs a table that cannot be read, with P1's events; gives what follows the file's name.
-fn table_fault(test: &str, table: &[u8]) -> String {
-    let table = file(&format!("{test}.table"), table);
-    let events = file(&format!("{test}.events"), event_text(&P1_EVENTS).as_bytes());
-    fault_of(&table, &[&table, &events])
-}
 
 /// Runs events that cannot be read, with P1's table; gives what follows the file's name.
 fn event_fault(test: &str, events: &[u8]) -> String {
@@ -45,7 +41,7 @@ fn fault_of(faulty: &Path, arguments: &[&PathBuf]) -> String {
 
 #[test]
 fn p1_prints_exactly_this() {
-    assert_eq!(over_rows("p1_text", &HALVES, &P1_EVENTS), printed(P1_TEXT));
+    assert_eq!(over_rows("p1_text", &HALVES, &P1_EVENTS), results(P1_TEXT));
 }
 
 #[test]
@@ -62,7 +58,7 @@ identifier,bytes,start,finish,virtual,held,lag
 10,100,168000,336000,0,1,-42000
 20,0,84000,252000,0,1,42000
 ";
-    assert_eq!(said, printed(expected));
+    assert_eq!(said, results(expected));
 }
 
 #[test]
@@ -77,32 +73,31 @@ identifier,bytes,start,finish,virtual,held,lag
 10,0,0,0,0,0,0
 20,0,0,0,0,0,0
 ";
-    assert_eq!(said, printed(expected));
+    assert_eq!(said, results(expected));
+}
+
+/// P1 with its events in these bytes.
+fn over_events(test: &str, events: &[u8]) -> Printed {
+    over_bytes(test, table_text(&HALVES).as_bytes(), events)
 }
 
 #[test]
-fn cr_lf_is_read_like_lf() {
-    let table = table_text(&HALVES).replace('\n', "\r\n");
-    let events = event_text(&P1_EVENTS).replace('\n', "\r\n");
-    let said = over_bytes("cr_lf", table.as_bytes(), events.as_bytes());
-    assert_eq!(said, printed(P1_TEXT));
+fn in_events_cr_lf_is_read_like_lf() {
+    let events = with_cr(&event_text(&P1_EVENTS));
+    assert_eq!(over_events("cr_lf", events.as_bytes()), results(P1_TEXT));
 }
 
 #[test]
-fn line_ends_may_be_mixed() {
-    let table = table_text(&HALVES).replacen('\n', "\r\n", 2);
-    let events = event_text(&P1_EVENTS);
-    let said = over_bytes("mixed_ends", table.as_bytes(), events.as_bytes());
-    assert_eq!(said, printed(P1_TEXT));
+fn in_events_line_ends_may_be_mixed() {
+    let events = event_text(&P1_EVENTS).replacen('\n', "\r\n", 2);
+    assert_eq!(over_events("mixed", events.as_bytes()), results(P1_TEXT));
 }
 
 #[test]
-fn leading_zeros_are_read() {
+fn in_events_leading_zeros_are_read() {
     let zeros = "0".repeat(100);
-    let table = table_text(&HALVES).replace(",420", &format!(",{zeros}420"));
-    let events = event_text(&P1_EVENTS);
-    let said = over_bytes("zeros", table.as_bytes(), events.as_bytes());
-    assert_eq!(said, printed(P1_TEXT));
+    let events = event_text(&P1_EVENTS).replace(",100", &format!(",{zeros}100"));
+    assert_eq!(over_events("zeros", events.as_bytes()), results(P1_TEXT));
 }
 
 #[test]
@@ -129,17 +124,21 @@ fn a_folder_cannot_be_read() {
 }
 
 #[test]
-fn the_table_is_read_before_the_events() {
+fn a_fault_of_the_table_comes_before_all_of_the_events() {
     let table = file("both.table", b"x\n");
-    let events = file("both.events", b"x\n");
-    let said = fault_of(&table, &[&table, &events]);
-    let heading = ", line 1: the heading must be identifier,parent,share\n";
-    assert_eq!(said, heading);
+    let missing = PathBuf::from(env!("CARGO_TARGET_TMPDIR")).join("missing.events");
+    for events in [file("both.events", b"x\n"), missing] {
+        let said = program(&[&table, &events]);
+        assert_eq!(said.output, "answer,place,second,count\r\n41,1,0,0\r\n");
+        assert!(said
+            .error
+            .starts_with("refused 41: line 1 has \"x\" at byte 1, "));
+    }
 }
 
 #[test]
 fn faulty_events_are_named_before_a_refusal_of_the_table() {
-    let table = file("refusable.table", b"identifier,parent,share\n");
+    let table = file("refusable.table", b"identifier,parent,share\r\n");
     let events = file("refusable.events", b"x\n");
     let said = fault_of(&events, &[&table, &events]);
     assert_eq!(said, ", line 1: the heading must be class,length\n");
@@ -147,19 +146,20 @@ fn faulty_events_are_named_before_a_refusal_of_the_table() {
 
 #[test]
 fn a_wrong_heading_is_named() {
-    let heading = ", line 1: the heading must be identifier,parent,share\n";
-    assert_eq!(table_fault("heading_1", b"class,length\n"), heading);
-    assert_eq!(table_fault("heading_2", b"\n1,0,0\n"), heading);
-    let capital = b"Identifier,parent,share\n";
-    assert_eq!(table_fault("heading_3", capital), heading);
-    let doubled = b"identifier,parent,share\r\r\n";
-    assert_eq!(table_fault("heading_4", doubled), heading);
+    let heading = ", line 1: the heading must be class,length\n";
+    let wrong: [&[u8]; 4] = [
+        b"identifier,parent,share\n",
+        b"\n10,1\n",
+        b"Class,length\n",
+        b"class,length\r\r\n",
+    ];
+    for (index, events) in wrong.into_iter().enumerate() {
+        assert_eq!(event_fault(&format!("heading_{index}"), events), heading);
+    }
 }
 
 #[test]
 fn an_empty_file_lacks_its_heading() {
-    let heading = ", line 1: the heading must be identifier,parent,share\n";
-    assert_eq!(table_fault("empty_table", b""), heading);
     let heading = ", line 1: the heading must be class,length\n";
     assert_eq!(event_fault("empty_events", b""), heading);
 }
@@ -184,16 +184,12 @@ fn a_missing_end_comes_before_other_faults_of_its_line_only() {
 
 #[test]
 fn a_wrong_number_of_fields_is_named() {
-    let wanted = ", line 2: 3 numbers are wanted\n";
-    let few = b"identifier,parent,share\n1,0\n";
-    assert_eq!(table_fault("fields_few", few), wanted);
-    let many = b"identifier,parent,share\n1,0,0,\n";
-    assert_eq!(table_fault("fields_many", many), wanted);
-    let blank = b"identifier,parent,share\n\n";
-    assert_eq!(table_fault("fields_blank", blank), wanted);
-    let wanted = ", line 3: 2 numbers are wanted\n";
-    let events = b"class,length\n10,1\nx,1,1\n";
-    assert_eq!(event_fault("fields_events", events), wanted);
+    let wrong: [&[u8]; 4] = [b"10", b"10,1,", b"", b"x,1,1"];
+    for (index, line) in wrong.into_iter().enumerate() {
+        let events = [b"class,length\n10,1\n", line, b"\n"].concat();
+        let said = event_fault(&format!("fields_{index}"), &events);
+        assert_eq!(said, ", line 3: 2 numbers are wanted\n");
+    }
 }
 
 #[test]
@@ -234,8 +230,8 @@ fn a_field_over_32_bits_is_named() {
 #[test]
 fn the_largest_number_is_read() {
     let events = b"class,length\n4294967295,4294967295\n";
-    let said = over_bytes("largest", table_text(&HALVES).as_bytes(), events);
-    assert_eq!(said.output, "answer,place,second,count\n11,0,0,0\n");
+    let said = over_events("largest", events);
+    assert_eq!(said.output, "answer,place,second,count\r\n11,0,0,0\r\n");
 }
 
 #[test]

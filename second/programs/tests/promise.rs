@@ -366,26 +366,39 @@ fn a_table_is_refused_as_in_a_run_without_events() {
 }
 
 #[test]
-fn a_table_that_cannot_be_read_is_named_as_in_a_run() {
-    let texts: [&[u8]; 5] = [
+fn a_fault_of_a_tables_text_is_answered_as_in_a_run() {
+    let long = [&b"identifier,parent,share\r\n"[..], &[b'1'; 65_512]].concat();
+    let texts: [&[u8]; 8] = [
+        &long,
+        b"class,length\r\n",
+        b"identifier,parent,share\r\n1;0;0\r\n",
+        b"identifier,parent,share\r\n01,0,0\r\n",
+        b"identifier,parent,share\r\n1,0,4294967296\r\n",
+        b"identifier,parent,share\r\n1,0\r\n",
+        b"identifier,parent,share\n1,0,0\n",
         b"",
-        b"class,length\n",
-        b"identifier,parent,share\n1,0",
-        b"identifier,parent,share\n1,0\n",
-        b"identifier,parent,share\n1,0,4294967296\n",
     ];
-    for text in texts {
-        same_as_second("unread_sheet", text);
+    for (number, text) in (40..).zip(texts) {
+        let said = same_as_second("faulty_sheet", text);
+        assert!(said.error.starts_with(&format!("refused {number}: ")));
     }
 }
 
+#[test]
+fn arguments_are_looked_at_before_a_fault_of_the_table() {
+    let said = over_bytes("faulty_table", b"x", &["1500", "x"]);
+    let own = "cannot read OWN: it is not a decimal number\n";
+    assert_eq!(said, printed(own));
+}
+
 /// The sheet's program and the run without events print the same, and no sheet.
-fn same_as_second(test: &str, table: &[u8]) {
+fn same_as_second(test: &str, table: &[u8]) -> Printed {
     let said = over_bytes(test, table, &["1500"]);
     let table = file(&format!("{test}.table"), table);
     let events = file(&format!("{test}.events"), event_text(&[]).as_bytes());
     assert_eq!(said, program(&[table, events]));
     assert!(!said.output.contains("own bytes") && !said.output.contains("order"));
+    said
 }
 
 #[test]

@@ -8,7 +8,7 @@ use crate::common::{chain, marked, wide, Columns, Event, Row, FINISH, HALVES, RO
 /// Runs the program over files and compares all it prints.
 fn says(test: &str, rows: &[Row], events: &[Event], numbers: &str, sentence: &str) {
     let expected = Printed {
-        output: format!("answer,place,second,count\n{numbers},0\n"),
+        output: format!("answer,place,second,count\r\n{numbers},0\r\n"),
         error: format!("{sentence}\n"),
     };
     assert_eq!(over_rows(test, rows, events), expected);

@@ -33,23 +33,30 @@ fn lines(folder: &Path, name: &str) -> Vec<Vec<u32>> {
 fn printed(call: &Call) -> String {
     let join = |numbers: Vec<String>| numbers.join(",");
     let answer = call.answer();
-    let mut text = String::from("answer,place,second,count\n");
+    let mut text = String::from("answer,place,second,count\r\n");
     text += &join(answer.iter().map(u32::to_string).collect());
     if answer[0] != 0 {
-        return text + "\n";
+        return text + "\r\n";
     }
-    text += "\norder\n";
+    text += "\r\norder\r\n";
     for place in &words(&call.0[5])[..answer[3] as usize] {
-        text += &format!("{place}\n");
+        text += &format!("{place}\r\n");
     }
-    text += "identifier,bytes,start,finish,virtual,held,lag\n";
+    text += "identifier,bytes,start,finish,virtual,held,lag\r\n";
     let [report, lags] = [&call.0[6], &call.0[7]].map(|bytes| longs(bytes));
     let rows = report.chunks_exact(5).zip(lags);
     for (identifier, (numbers, lag)) in words(&call.0[0]).iter().zip(rows) {
         let numbers = join(numbers.iter().map(u64::to_string).collect());
-        text += &format!("{identifier},{numbers},{}\n", lag as i64);
+        text += &format!("{identifier},{numbers},{}\r\n", lag as i64);
     }
     text
+}
+
+/// Whether a stored answer is a fault of the table's text, which is not looked at here.
+fn is_of_text(stored: &str) -> bool {
+    let answer = stored.lines().nth(1).unwrap_or("");
+    let number = answer.split(',').next().unwrap_or("");
+    (40..=47).any(|fault: u32| number == fault.to_string())
 }
 
 #[test]
@@ -57,13 +64,16 @@ fn every_example_comes_out_as_stored() {
     let folders = folders();
     assert!(folders.len() > 30);
     for folder in folders {
+        let stored = text(&folder, "answer.csv");
+        if is_of_text(&stored) {
+            continue;
+        }
         let rows = lines(&folder, "table.csv").into_iter();
         let rows: Vec<_> = rows.map(|row| (row[0], row[1], row[2])).collect();
         let events = lines(&folder, "events.csv").into_iter();
         let events: Vec<_> = events.map(|event| (event[0], event[1])).collect();
         let mut call = Call::new(&rows, &events);
         call.run();
-        let stored = text(&folder, "answer.csv");
         let kept = stored
             .split_inclusive('\n')
             .filter(|line| !line.starts_with("refused "));

@@ -8,11 +8,17 @@ use std::process::Command;
 
 use crate::{End, Files, Printed};
 
-/// Answers 0 to 15, then `cannot read`, a sheet, and a sheet with a number that outgrows.
-pub const ANSWERS: usize = 19;
-const CANNOT_READ: usize = 16;
-const SHEET: usize = 17;
-const OUTGROWN: usize = 18;
+/// The numbers of answers: those of a run up to 15, then those of a table's text.
+const NUMBERS: [usize; 24] = [
+    0, 1, 2, 3, 4, 5, 6, 7, 8, 9, 10, 11, 12, 13, 14, 15, 40, 41, 42, 43, 44, 45, 46, 47,
+];
+
+/// What is counted as an answer: `NUMBERS`, then `cannot read`, a sheet, and a sheet with a number
+/// that outgrows.
+pub const ANSWERS: usize = NUMBERS.len() + 3;
+const CANNOT_READ: usize = NUMBERS.len();
+const SHEET: usize = NUMBERS.len() + 1;
+const OUTGROWN: usize = NUMBERS.len() + 2;
 
 /// What an answer is, for a reader.
 pub fn answer_name(answer: usize) -> String {
@@ -20,11 +26,11 @@ pub fn answer_name(answer: usize) -> String {
         CANNOT_READ => "cannot read".to_string(),
         SHEET => "sheet".to_string(),
         OUTGROWN => "sheet that outgrows".to_string(),
-        _ => format!("answer {answer}"),
+        _ => format!("answer {}", NUMBERS[answer]),
     }
 }
 
-/// The number of the answer that begins so; nothing if it is none.
+/// The place among the answers of the one that begins so; nothing if it is none.
 fn answer(output: &[u8]) -> Option<usize> {
     if output.starts_with(b"cannot read") {
         return Some(CANNOT_READ);
@@ -35,10 +41,10 @@ fn answer(output: &[u8]) -> Option<usize> {
             .any(|line| line.ends_with(b" = outgrown"));
         return Some(if outgrows { OUTGROWN } else { SHEET });
     }
-    let rest = output.strip_prefix(b"answer,place,second,count\n")?;
+    let rest = output.strip_prefix(b"answer,place,second,count\r\n")?;
     let number = rest.split(|b| *b == b',').next()?;
     let number: usize = std::str::from_utf8(number).ok()?.parse().ok()?;
-    (number < CANNOT_READ).then_some(number)
+    NUMBERS.iter().position(|known| *known == number)
 }
 
 /// Which of the programs is run.
@@ -154,10 +160,15 @@ mod tests {
     #[test]
     fn answers_are_recognised() {
         let numbered =
-            |line: &str| answer(format!("answer,place,second,count\n{line}\n").as_bytes());
-        assert_eq!(numbered("0,0,0,3"), Some(0));
-        assert_eq!(numbered("15,7,0,0"), Some(15));
-        assert_eq!(numbered("16,0,0,0"), None);
+            |line: &str| answer(format!("answer,place,second,count\r\n{line}\r\n").as_bytes());
+        for number in [0, 1, 15, 40, 47] {
+            let name = numbered(&format!("{number},0,0,0")).map(answer_name);
+            assert_eq!(name, Some(format!("answer {number}")));
+        }
+        for number in ["16", "39", "48", "x", ""] {
+            assert_eq!(numbered(&format!("{number},0,0,0")), None);
+        }
+        assert_eq!(answer(b"answer,place,second,count\n0,0,0,3\n"), None);
         assert_eq!(answer(b""), None);
         assert_eq!(answer(b"cannot read x, line 1: ..\n"), Some(CANNOT_READ));
         let sheet = "own bytes 1, largest packet 1, three packets 3\n";
@@ -169,7 +180,7 @@ mod tests {
 
     #[test]
     fn programs_agree_only_on_an_answer_that_both_print() {
-        let said = "answer,place,second,count\n1,0,0,0\n";
+        let said = "answer,place,second,count\r\n1,0,0,0\r\n";
         let ended = |end| Printed {
             end,
             ..printed(said)

@@ -28,17 +28,19 @@ pub struct Case {
 }
 
 impl Case {
+    /// A table's lines end in CR LF alone.
     pub fn table_text(&self) -> String {
-        let mut text = String::from("identifier,parent,share\n");
+        let mut text = String::from("identifier,parent,share\r\n");
         for row in &self.rows {
             text.push_str(&format!(
-                "{},{},{}\n",
+                "{},{},{}\r\n",
                 row.identifier, row.parent, row.share
             ));
         }
         text
     }
 
+    /// Those of a list may end in LF too.
     pub fn event_text(&self) -> String {
         let mut text = String::from("class,length\n");
         for event in &self.events {

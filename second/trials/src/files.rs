@@ -22,15 +22,16 @@ impl Files {
         }
     }
 
-    /// Now and then other line ends or leading zeros, which are read alike.
+    /// Now and then other line ends or leading zeros in the list, where they are read alike.
     pub fn disguise(&mut self, random: &mut Random) {
-        for bytes in [&mut self.table, &mut self.events].into_iter().flatten() {
-            match random.below(16) {
-                0 | 1 => *bytes = edited(bytes, with_cr),
-                2 => *bytes = edited(bytes, |line| some_with_cr(line, random)),
-                3 => *bytes = edited(bytes, |line| with_zeros(line, random)),
-                _ => {}
-            }
+        let Some(bytes) = &mut self.events else {
+            return;
+        };
+        match random.below(8) {
+            0 | 1 => *bytes = edited(bytes, with_cr),
+            2 => *bytes = edited(bytes, |line| some_with_cr(line, random)),
+            3 => *bytes = edited(bytes, |line| with_zeros(line, random)),
+            _ => {}
         }
     }
 }

@@ -96,11 +96,11 @@ impl Shrinker<'_> {
         self.keep(self.table.clone(), events)
     }
 
-    /// Plain line ends and no leading zeros, as far as lines can be read.
+    /// The usual line ends and no leading zeros, as far as lines can be read.
     fn make_plain(&mut self) {
         let all_plain = |lines: &Lines| lines.iter().map(|line| plain(line)).collect();
-        let (table, events) = (all_plain(&self.table), all_plain(&self.events));
-        self.keep(table, events);
+        self.keep(all_plain(&self.table), self.events.clone());
+        self.keep_events(all_plain(&self.events));
     }
 
     /// Tries stretches of the lines below the heading, large ones first and those at the end first.
@@ -205,13 +205,13 @@ fn numbers<const COUNT: usize>(line: &[u8]) -> Option<[u32; COUNT]> {
 
 fn plain(line: &[u8]) -> Vec<u8> {
     if let Some([identifier, parent, share]) = numbers(line) {
-        return format!("{identifier},{parent},{share}\n").into_bytes();
+        return format!("{identifier},{parent},{share}\r\n").into_bytes();
     }
     if let Some([class, length]) = numbers(line) {
         return format!("{class},{length}\n").into_bytes();
     }
     match line {
-        b"identifier,parent,share\r\n" => b"identifier,parent,share\n".to_vec(),
+        b"identifier,parent,share\n" => b"identifier,parent,share\r\n".to_vec(),
         b"class,length\r\n" => b"class,length\n".to_vec(),
         _ => line.to_vec(),
     }
@@ -266,7 +266,7 @@ mod tests {
     fn a_difference_in_one_event_is_cut_down_to_that_event() {
         let long = |line: &Vec<u8>| numbers(line).is_some_and(|[_, length]| length > 1700);
         let small = shrink(&list(), &mut |files| event_lines(files).iter().any(long));
-        assert_eq!(text(&small.table), "identifier,parent,share\n");
+        assert_eq!(text(&small.table), "identifier,parent,share\r\n");
         let events = event_lines(&small);
         assert_eq!(events.len(), 2);
         assert_eq!(numbers(&events[1]).map(|[_, length]| length), Some(1701));
@@ -298,7 +298,7 @@ mod tests {
             rows.contains(&needed)
         });
         assert_eq!(text(&small.events), "class,length\n");
-        let expected = [b"identifier,parent,share\n".to_vec(), needed].concat();
+        let expected = [b"identifier,parent,share\r\n".to_vec(), needed].concat();
         assert_eq!(small.table, Some(expected));
     }
 
@@ -317,12 +317,15 @@ mod tests {
     #[test]
     fn other_line_ends_go_unless_they_are_the_difference() {
         let mut files = list();
-        let bytes = text(&files.events).replace('\n', "\r\n").into_bytes();
-        files.events = Some(bytes);
+        files.table = Some(text(&files.table).replace("\r\n", "\n").into_bytes());
+        files.events = Some(text(&files.events).replace('\n', "\r\n").into_bytes());
         let any = shrink(&files, &mut |files| event_lines(files).len() > 1);
         assert!(!text(&any.events).contains('\r'));
+        assert_eq!(text(&any.table), "identifier,parent,share\r\n");
         let cr = shrink(&files, &mut |files| text(&files.events).contains("\r\n"));
         assert_eq!(text(&cr.events), "class,length\r\n");
+        let lf = shrink(&files, &mut |files| !text(&files.table).contains('\r'));
+        assert_eq!(text(&lf.table), "identifier,parent,share\n");
     }
 
     #[test]

@@ -14,6 +14,16 @@ pub struct Printed {
     pub error: String,
 }
 
+/// The text with CR LF at the end of each line, as tables and results have it.
+pub fn with_cr(text: &str) -> String {
+    text.replace('\n', "\r\n")
+}
+
+/// Results, of which the lines are given with plain ends.
+pub fn results(output: &str) -> Printed {
+    printed(&with_cr(output))
+}
+
 /// All of it on standard output.
 pub fn printed(output: &str) -> Printed {
     Printed {
@@ -23,8 +33,8 @@ pub fn printed(output: &str) -> Printed {
 }
 
 pub fn table_text(rows: &[Row]) -> String {
-    let lines = rows.iter().map(|(i, p, s)| format!("{i},{p},{s}\n"));
-    format!("identifier,parent,share\n{}", lines.collect::<String>())
+    let lines = rows.iter().map(|(i, p, s)| format!("{i},{p},{s}\r\n"));
+    format!("identifier,parent,share\r\n{}", lines.collect::<String>())
 }
 
 pub fn event_text(events: &[Event]) -> String {

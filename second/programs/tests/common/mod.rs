@@ -1,6 +1,7 @@
 //! Helpers that the test files share: running a case over lent slices.
 
 pub mod files;
+pub mod texts;
 
 use second::{Answer, EventSlices, Room, TableSlices};
 

@@ -12,15 +12,14 @@ use Rattle.files.proofs.reading.read_bytes.Statement.{statement}
 use Rattle.files.proofs.reading.read_bytes.Tie as tie
 
 abbrev Inv-loop : tie.InvT-loop
-Inv-loop bytes first₀ second₀ third₀ scan₀ i₀ first second third scan i =
+Inv-loop bytes first₀ second₀ scan₀ i₀ first second scan i =
     (i ≤ length bytes)
     × (length first ≡ length first₀)
     × (length second ≡ length second₀)
-    × (length third ≡ length third₀)
-    × (with-bytes (columns-of scan first second third) (drop i bytes) ≡ with-bytes (columns-of scan₀ first₀ second₀ third₀) bytes)
+    × (with-bytes (columns-of scan first second) (drop i bytes) ≡ with-bytes (columns-of scan₀ first₀ second₀) bytes)
 
 abbrev μ-loop : tie.MeasureT-loop
-μ-loop bytes first₀ second₀ third₀ scan₀ i₀ first second third scan i = length bytes - i
+μ-loop bytes first₀ second₀ scan₀ i₀ first second scan i = length bytes - i
 
 loop-holds : tie.Need-loop-holds Inv-loop μ-loop
 loop-holds c = search needs
@@ -40,11 +39,11 @@ loop-less c = search needs
 loop-again : tie.Need-loop-again Inv-loop μ-loop
 unfolding with-bytes
 loop-again c =
-    let now = c .before .before .before .before .before .before in
-    let at = now .before .before .before .before .before .before .loop in
-    let bytes = c .before .before .before .before .before .before .before .before .before .before .before .before .before .before .before .before .before .args .bytes .now in
+    let now = c .before .before .before .before in
+    let at = now .before .before .before .before .before .loop in
+    let bytes = c .before .before .before .before .before .before .before .before .before .before .before .before .before .args .bytes .now in
     let here : at .i < length bytes = omega arith in
-    (search needs, search needs, search needs, search needs, rw (now .step .ensures, add-one) (rw (drop-cons bytes (at .i) 0 here) at (at .inv .4)))
+    (search needs, search needs, search needs, rw (now .step .ensures, add-one) (rw (drop-cons bytes (at .i) 0 here) at (at .inv .3)))
 
 same-length : tie.Need-same-length Inv-loop μ-loop
 same-length c = search needs
@@ -52,16 +51,13 @@ same-length c = search needs
 same-length-2 : tie.Need-same-length-2 Inv-loop μ-loop
 same-length-2 c = search needs
 
-same-length-3 : tie.Need-same-length-3 Inv-loop μ-loop
-same-length-3 c = search needs
-
 returns : tie.Need-returns Inv-loop μ-loop
 unfolding with-bytes
 returns c =
     let at = c .before .loop in
-    let bytes = c .before .before .before .before .before .before .args .bytes .now in
+    let bytes = c .before .before .before .before .before .args .bytes .now in
     let end : at .i ≡ length bytes = omega arith in
-    rw (end, drop-length bytes) at (at .inv .4)
+    rw (end, drop-length bytes) at (at .inv .3)
 
 pub read-bytes-spec : {M : Type 1} → statement M
 read-bytes-spec =
@@ -77,5 +73,4 @@ read-bytes-spec =
     loop-again
     same-length
     same-length-2
-    same-length-3
     returns)

@@ -17,21 +17,21 @@ use Rattle.files.proofs.reading.step.Statement.{statement}
 use Rattle.files.proofs.reading.step.Tie as tie
 
 -- what is no line of numbers, by its tag, changes no column
-others : (found : Found) (scan : Scan) (a b c : List ℕ)
-    → OneOf (0 ∷ 2 ∷ 3 ∷ 4 ∷ 5 ∷ 6 ∷ []) (tagOf the-type found) → columns-of scan a b c ≡ keeping scan found a b c
+others : (found : Found) (scan : Scan) (a b : List ℕ)
+    → OneOf (0 ∷ 2 ∷ 3 ∷ 4 ∷ 5 ∷ 6 ∷ []) (tagOf the-type found) → columns-of scan a b ≡ keeping scan found a b
 unfolding keeping
-others Nothing scan a b c tag = refl
-others (Row x y z) scan a b c tag =
+others Nothing scan a b tag = refl
+others (Row x y) scan a b tag =
     absurd
     (⊎-elim (λ e. omega arith)
     (⊎-elim (λ e. omega arith)
     (⊎-elim (λ e. omega arith) (⊎-elim (λ e. omega arith) (⊎-elim (λ e. omega arith) (λ e. omega arith)))))
     tag)
-others NoEnd scan a b c tag = refl
-others WrongHeading scan a b c tag = refl
-others WrongCount scan a b c tag = refl
-others (NoNumber place) scan a b c tag = refl
-others (TooLarge place) scan a b c tag = refl
+others NoEnd scan a b tag = refl
+others WrongHeading scan a b tag = refl
+others WrongCount scan a b tag = refl
+others (NoNumber place) scan a b tag = refl
+others (TooLarge place) scan a b tag = refl
 
 feed-requires : tie.Need-feed-requires
 feed-requires c κs = search needs
@@ -48,28 +48,22 @@ keep-requires c κs = search needs
 keep-requires-2 : tie.Need-keep-requires-2
 keep-requires-2 c κs = search needs
 
-keep-requires-3 : tie.Need-keep-requires-3
-keep-requires-3 c κs = search needs
-
 same-length : tie.Need-same-length
 same-length c = search needs
 
 same-length-2 : tie.Need-same-length-2
 same-length-2 c = search needs
 
-same-length-3 : tie.Need-same-length-3
-same-length-3 c = search needs
-
 returns : tie.Need-returns
 unfolding with-byte keeping
 returns c =
-    let last = c .before .before .before .before .before .before in
-    let read = last .before .before .before .before .before .before .before .before in
+    let last = c .before .before .before .before in
+    let read = last .before .before .before .before .before .before in
     rw (with-byte, ← read .before .before .feed .ensures, read .found .given .1) (cc)
 
 returns-2 : tie.Need-returns-2
 unfolding with-byte
-returns-2 c = rw (with-byte, ← c .before .feed .ensures) (others _ _ _ _ _ (c .match .keys2))
+returns-2 c = rw (with-byte, ← c .before .feed .ensures) (others _ _ _ _ (c .match .keys2))
 
 pub step-spec : {M : Type 1} → statement M
 step-spec =
@@ -80,9 +74,7 @@ step-spec =
     row-of-requires
     keep-requires
     keep-requires-2
-    keep-requires-3
     same-length
     same-length-2
-    same-length-3
     returns
     returns-2)

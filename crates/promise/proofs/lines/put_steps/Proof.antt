@@ -1,16 +1,18 @@
--- `put_steps` is safe and ends: the steps come up to the depth.
+-- `put_steps` is safe and ends: it passes the steps one by one.
 -- Assumes nothing.
 use Prim.Native.Nat.{_-_, _≤_}
+use mathlib.Core.Path.{_≡_}
+use lib.ListN.{length}
 use borrow.Author.Needs.{needs}
 use Rattle.promise.proofs.lines.put_steps.Statement.{statement}
 use Rattle.promise.proofs.lines.put_steps.Tie as tie
 
 abbrev Inv-loop : tie.InvT-loop
-Inv-loop out₀ largest own ticks identifiers parents shares row depth sink₀ figure₀ at₀ step₀ out sink figure at step =
-    step ≤ depth
+Inv-loop page₀ used largest own ticks identifiers parents shares row depth used₀ figure₀ at₀ step₀ page used' figure at step =
+    (step ≤ depth) × (length page ≡ length page₀)
 
 abbrev μ-loop : tie.MeasureT-loop
-μ-loop out₀ largest own ticks identifiers parents shares row depth sink₀ figure₀ at₀ step₀ out sink figure at step =
+μ-loop page₀ used largest own ticks identifiers parents shares row depth used₀ figure₀ at₀ step₀ page used' figure at step =
     depth - step
 
 after-requires : tie.Need-after-requires Inv-loop μ-loop
@@ -34,6 +36,9 @@ word-requires-2 c κs = search needs
 put-step-requires : tie.Need-put-step-requires Inv-loop μ-loop
 put-step-requires c κs = search needs
 
+same-length : tie.Need-same-length Inv-loop μ-loop
+same-length c = search needs
+
 returns : tie.Need-returns Inv-loop μ-loop
 returns c = search needs
 
@@ -48,6 +53,9 @@ loop-again c = search needs
 
 put-last-requires : tie.Need-put-last-requires Inv-loop μ-loop
 put-last-requires c κs = search needs
+
+same-length-2 : tie.Need-same-length-2 Inv-loop μ-loop
+same-length-2 c = search needs
 
 returns-2 : tie.Need-returns-2 Inv-loop μ-loop
 returns-2 c = search needs
@@ -65,9 +73,11 @@ put-steps-spec =
     word-requires
     word-requires-2
     put-step-requires
+    same-length
     returns
     word-requires-3
     loop-less
     loop-again
     put-last-requires
+    same-length-2
     returns-2)

@@ -1,28 +1,22 @@
--- `byte_at` meets its contract, arm by arm.
+-- `byte_at` meets its contract: the heading has 12 bytes, and past them there is none.
 -- Assumes nothing.
+use mathlib.Core.Path.{sym}
+use lib.ListN.{List·getD-eq-default}
 use borrow.Author.Needs.{needs}
+use Rattle.text.specs.Reading.{heading}
 use Rattle.text.proofs.heading.byte_at.Statement.{statement}
 use Rattle.text.proofs.heading.byte_at.Tie as tie
 
-enum-told : tie.Need-enum-told
-enum-told c = search needs
-
-table-byte-requires : tie.Need-table-byte-requires
-table-byte-requires c κs = search needs
-
-enum-told-2 : tie.Need-enum-told-2
-enum-told-2 c = search needs
-
-event-byte-requires : tie.Need-event-byte-requires
-event-byte-requires c κs = search needs
+array-read-result : tie.Need-array-read-result
+array-read-result c = search needs
 
 returns : tie.Need-returns
-returns c = rw (c .before .enum-told .given .1) (c .table-byte .ensures)
+unfolding heading
+returns c = search needs
 
 returns-2 : tie.Need-returns-2
-returns-2 c = rw (c .before .enum-told2 .given .1) (c .event-byte .ensures)
+unfolding heading
+returns-2 c = sym (List·getD-eq-default heading 0 (c .if1 .left))
 
 pub byte-at-spec : {M : Type 1} → statement M
-byte-at-spec =
-    tie.close
-    (tie.spec enum-told table-byte-requires enum-told-2 event-byte-requires returns returns-2)
+byte-at-spec = tie.close (tie.spec array-read-result returns returns-2)

@@ -9,12 +9,9 @@ use Rattle.text.specs.Reading.{agreed-with, heading}
 use Rattle.text.proofs.lines.agreed_with.Statement.{statement}
 use Rattle.text.proofs.lines.agreed_with.Tie as tie
 
-size-requires : tie.Need-size-requires
-size-requires c κs = search needs
-
 returns : tie.Need-returns
-unfolding agreed-with
-returns c = let a = c .before .before .args in rw (le-ltb (a .agreed) (length (heading (a .kind))) (omega arith))
+unfolding agreed-with heading
+returns c = let a = c .before .args in rw (le-ltb (a .agreed) (length heading) (omega arith))
 
 byte-at-requires : tie.Need-byte-at-requires
 byte-at-requires c κs = search needs
@@ -23,23 +20,23 @@ add-result : tie.Need-add-result
 add-result c = search needs
 
 returns-2 : tie.Need-returns-2
-unfolding agreed-with
+unfolding agreed-with heading
 returns-2 c =
-    let a = c .before .before .before .before .args in
+    let a = c .before .before .before .args in
     rw (
-      lt-ltb (a .agreed) (length (heading (a .kind))) (omega arith),
-      eq-eqb (getD (heading (a .kind)) (a .agreed) 0) (a .byte) (sym (c .before .byte-at .ensures) ∙ c .if2 .taken),
+      lt-ltb (a .agreed) (length heading) (omega arith),
+      eq-eqb (getD heading (a .agreed) 0) (a .byte) (sym (c .before .byte-at .ensures) ∙ c .if2 .taken),
     )
 
 returns-3 : tie.Need-returns-3
-unfolding agreed-with
+unfolding agreed-with heading
 returns-3 c =
-    let a = c .before .before .before .before .args in
+    let a = c .before .before .before .args in
     rw (
-      lt-ltb (a .agreed) (length (heading (a .kind))) (omega arith),
-      ne-eqb (getD (heading (a .kind)) (a .agreed) 0) (a .byte) (λ e. c .if2 .left (c .before .byte-at .ensures ∙ e)),
+      lt-ltb (a .agreed) (length heading) (omega arith),
+      ne-eqb (getD heading (a .agreed) 0) (a .byte) (λ e. c .if2 .left (c .before .byte-at .ensures ∙ e)),
     )
 
 pub agreed-with-spec : {M : Type 1} → statement M
 agreed-with-spec =
-    tie.close (tie.spec size-requires returns byte-at-requires add-result returns-2 returns-3)
+    tie.close (tie.spec returns byte-at-requires add-result returns-2 returns-3)

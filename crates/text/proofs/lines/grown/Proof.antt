@@ -17,18 +17,14 @@ field-with-requires c κs = search needs
 field-with-requires-2 : tie.Need-field-with-requires-2
 field-with-requires-2 c κs = search needs
 
-field-with-requires-3 : tie.Need-field-with-requires-3
-field-with-requires-3 c κs = search needs
-
 returns : tie.Need-returns
 unfolding grown
 returns c =
     rw (
-      c .field-with3 .ensures,
-      c .before .field-with2 .ensures,
-      c .before .before .field-with .ensures,
-      c .before .before .before .commas-with .ensures,
-      c .before .before .before .before .agreed-with .ensures,
+      c .field-with2 .ensures,
+      c .before .field-with .ensures,
+      c .before .before .commas-with .ensures,
+      c .before .before .before .agreed-with .ensures,
     )
 
 pub grown-spec : {M : Type 1} → statement M
@@ -39,5 +35,4 @@ grown-spec =
     commas-with-requires
     field-with-requires
     field-with-requires-2
-    field-with-requires-3
     returns)

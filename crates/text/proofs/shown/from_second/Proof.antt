@@ -1,9 +1,7 @@
 -- `from_second` meets its contract, arm by arm.
 -- Assumes nothing.
-use mathlib.Core.Path.{sym, ap, _∙_}
 use borrow.Author.Needs.{needs}
-use Rattle.text.specs.declared.Field.{Field}
-use Rattle.text.specs.Reading.{from-second, number-in, from-third}
+use Rattle.text.specs.Reading.{from-second, number-in}
 use Rattle.text.proofs.shown.from_second.Statement.{statement}
 use Rattle.text.proofs.shown.from_second.Tie as tie
 
@@ -12,9 +10,6 @@ enum-told c = search needs
 
 enum-known-field : tie.Need-enum-known-field
 enum-known-field c = search needs
-
-from-third-requires : tie.Need-from-third-requires
-from-third-requires c κs = search needs
 
 enum-told-2 : tie.Need-enum-told-2
 enum-told-2 c = search needs
@@ -28,10 +23,7 @@ returns c = rw (c .enum-told .given .1)
 
 returns-2 : tie.Need-returns-2
 unfolding from-second number-in
-returns-2 c =
-    let a = c .before .before .before .before .args in
-    c .from-third .ensures
-    ∙ sym (ap (λ (f : Field). number-in 2 f (from-third (a .kind) (a .line) (a .first))) (c .before .before .field .given .1))
+returns-2 c = rw (c .before .field .given .1)
 
 returns-3 : tie.Need-returns-3
 unfolding from-second number-in
@@ -47,7 +39,6 @@ from-second-spec =
     (tie.spec
     enum-told
     enum-known-field
-    from-third-requires
     enum-told-2
     enum-told-3
     returns

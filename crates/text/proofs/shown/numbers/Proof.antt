@@ -31,7 +31,7 @@ unfolding numbers number-in
 returns-2 c =
     let a = c .before .before .before .before .args in
     c .from-second .ensures
-    ∙ sym (ap (λ (f : Field). number-in 1 f (from-second (a .kind) (a .line))) (c .before .before .field .given .1))
+    ∙ sym (ap (λ (f : Field). number-in 1 f (from-second (a .line))) (c .before .before .field .given .1))
 
 returns-3 : tie.Need-returns-3
 unfolding numbers number-in

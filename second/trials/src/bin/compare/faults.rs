@@ -1,9 +1,10 @@
-//! Faults of the text form: what makes a file one that cannot be read.
+//! Faults of the text form: what makes a list one that cannot be read, and a table faulty or not
+//! there.
 
 use trials::{lines, Files, Random};
 
 /// What the two files must begin with.
-const HEADINGS: [&[u8]; 2] = [b"identifier,parent,share\n", b"class,length\n"];
+const HEADINGS: [&[u8]; 2] = [b"identifier,parent,share\r\n", b"class,length\n"];
 
 const WRONG_HEADINGS: [&[u8]; 10] = [
     b"\n",
@@ -91,7 +92,7 @@ pub const FAULTS: [Fault; 18] = [
     Fault::ByteAdded,
 ];
 
-/// So many of them always make a file that cannot be read.
+/// So many of them always make a file that is not accepted.
 const SURE: usize = 13;
 
 /// Puts the fault into one of the two files; for a sheet, into the table.
@@ -127,7 +128,7 @@ pub fn put_in(files: &mut Files, fault: Fault, random: &mut Random) {
 }
 
 fn byte_fault(bytes: &mut Vec<u8>, fault: Fault, random: &mut Random) {
-    let common = b"0123456789,,,\n\n\r -";
+    let common = b"0123456789,,,\n\n\r\r -";
     let byte = match random.one_in(4) {
         true => random.below(256) as u8,
         false => random.pick(common),
@@ -224,7 +225,7 @@ mod tests {
     use super::*;
     use trials::{random_events, random_table, Case, Folder, Shape};
 
-    /// What the second program prints for these files.
+    /// What the second program prints for these files on standard output.
     fn output(folder: &Folder, files: &Files) -> String {
         let path = |name: &str, bytes: &Option<Vec<u8>>| -> OsString {
             let path = folder.path().join(name);
@@ -251,15 +252,26 @@ mod tests {
         (files, random)
     }
 
+    /// Whether a text is answered with a fault of a table's.
+    fn is_fault(said: &str) -> bool {
+        let number = |n: u32| said.starts_with(&format!("answer,place,second,count\r\n{n},"));
+        (40..=47).any(number)
+    }
+
     #[test]
-    fn each_fault_makes_a_file_that_cannot_be_read() {
+    fn each_fault_makes_a_list_that_cannot_be_read_or_a_table_that_is_faulty() {
         let folder = Folder::fresh("faults").expect("a folder can be made");
         for fault in &FAULTS[..SURE] {
             for number in 0..40 {
                 let (mut files, mut random) = list(number, true);
+                let before = files.table.clone();
                 put_in(&mut files, *fault, &mut random);
                 let said = output(&folder, &files);
-                assert!(said.starts_with("cannot read"), "{fault:?} {files:?}");
+                let right = match files.table != before && *fault != Fault::Missing {
+                    true => is_fault(&said),
+                    false => said.starts_with("cannot read"),
+                };
+                assert!(right, "{fault:?} {files:?}");
             }
         }
     }

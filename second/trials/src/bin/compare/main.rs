@@ -1,6 +1,7 @@
 //! The program `compare PROVED SECOND [SEED [LISTS]]`: two folders' programs over the same files.
 #![forbid(unsafe_code)]
 
+mod bytes;
 mod charged;
 mod edges;
 mod faults;
@@ -8,6 +9,7 @@ mod identifiers;
 mod plan;
 mod sheets;
 mod tally;
+mod texts;
 
 use std::ffi::OsString;
 use std::io::{Error, Result};
@@ -16,18 +18,21 @@ use std::process::ExitCode;
 use std::sync::atomic::{AtomicUsize, Ordering};
 use std::thread;
 
-use plan::trial;
+use bytes::{damaged_table, TEXTS};
+use plan::{trial, Trial, ROUND_LISTS};
 use tally::Tally;
 use trials::{counted, difference, folders, Bench, Folder};
 
 const DEFAULT_SEED: u64 = 840;
-const DEFAULT_LISTS: usize = 3120;
+const DEFAULT_LISTS: usize = 60 * ROUND_LISTS;
 
 struct Settings {
     programs: [PathBuf; 2],
     seed: u64,
     /// Besides the one of full size.
     lists: usize,
+    /// Those of one table, damaged byte by byte.
+    texts: usize,
 }
 
 fn main() -> ExitCode {
@@ -45,6 +50,8 @@ fn settings(arguments: &[OsString]) -> Result<Settings> {
             programs: folders(proved, second)?,
             seed,
             lists,
+            // Under other seeds they would be the same again.
+            texts: if seed == DEFAULT_SEED { TEXTS } else { 0 },
         }),
         _ => Err(Error::other(
             "give the folders of the programs, then a seed and a number of lists if you like: \
@@ -53,11 +60,20 @@ fn settings(arguments: &[OsString]) -> Result<Settings> {
     }
 }
 
+/// The trial with this number: of the lists, the last of which has full size, then of the texts.
+fn numbered(settings: &Settings, number: usize) -> Trial {
+    match number.checked_sub(settings.lists + 1) {
+        None => trial(settings.seed, number, settings.lists),
+        Some(text) => damaged_table(text),
+    }
+}
+
 /// Compares all lists and prints what came of them; true if nothing failed.
 fn compare(settings: &Settings) -> Result<bool> {
     let folder = Folder::fresh("compare")?;
     let lists = settings.lists + 1;
-    println!("seed {}, {lists} lists", settings.seed);
+    let texts = settings.texts;
+    println!("seed {}, {lists} lists, {texts} texts", settings.seed);
     let mut tally = all_lists(settings, folder.path())?;
     tally.differing.sort_unstable();
     print!("{}", tally.text());
@@ -95,7 +111,7 @@ fn all_lists(settings: &Settings, folder: &Path) -> Result<Tally> {
     })
 }
 
-/// Takes one list after another until none is left; the one of full size first.
+/// Takes one list after another until none is left, the one of full size first; then the texts.
 fn some_lists(
     settings: &Settings,
     folder: &Path,
@@ -106,11 +122,16 @@ fn some_lists(
     let mut tally = Tally::default();
     loop {
         let taken = next.fetch_add(1, Ordering::Relaxed);
-        let Some(list) = settings.lists.checked_sub(taken) else {
+        if taken > settings.lists + settings.texts {
             return Ok(tally);
-        };
-        let trial = trial(settings.seed, list, settings.lists);
-        tally.add(list, bench.run(&trial.files)?.agreed());
+        }
+        let number = settings.lists.checked_sub(taken).unwrap_or(taken);
+        let trial = numbered(settings, number);
+        let agreed = bench.run(&trial.files)?.agreed();
+        match number > settings.lists {
+            true => tally.add_text(number, agreed),
+            false => tally.add(number, agreed),
+        }
         if let Some(case) = &trial.case {
             tally.look_inside(case);
         }
@@ -118,11 +139,11 @@ fn some_lists(
 }
 
 /// Cuts the list down and shows what is left of it.
-fn show_difference(settings: &Settings, folder: &Path, list: usize) -> Result<()> {
+fn show_difference(settings: &Settings, folder: &Path, number: usize) -> Result<()> {
     let bench = Bench::new(&settings.programs, folder)?;
-    let found = trial(settings.seed, list, settings.lists);
+    let found = numbered(settings, number);
     println!(
-        "compare: list {list} ({}) comes out differently",
+        "compare: list {number} ({}) comes out differently",
         found.name
     );
     print!("{}", difference(&bench, &found.files)?);

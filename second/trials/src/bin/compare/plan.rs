@@ -4,6 +4,7 @@ use std::mem::discriminant;
 
 use crate::faults::{put_in, Fault, FAULTS};
 use crate::sheets::{sheet_files, Manner};
+use crate::texts::{put_in_table, NUMBERS};
 use second::{MOST_DEPTH, MOST_EVENTS, WHOLE};
 use trials::{
     damage, damage_twice, random_events, random_table, rounding_case, Case, Files, Random, Shape,
@@ -17,14 +18,20 @@ enum Kind {
     Refused(u32),
     TwiceDamaged,
     Faulty,
+    /// With a table whose text has a fault of this number.
+    Text(u32),
     FullSize,
     Sheet(Manner),
     FaultySheet,
+    TextSheet,
 }
 
-use Kind::{Accepted, Faulty, FaultySheet, NoEvents, Refused, Rounding, Sheet, TwiceDamaged};
+use Kind::{
+    Accepted, Faulty, FaultySheet, NoEvents, Refused, Rounding, Sheet, Text, TextSheet,
+    TwiceDamaged,
+};
 
-const ROUND: [Kind; 52] = [
+const ROUND: [Kind; ROUND_LISTS] = [
     Accepted(Shape::Flat),
     Accepted(Shape::Chain),
     Accepted(Shape::Deep),
@@ -69,6 +76,14 @@ const ROUND: [Kind; 52] = [
     Faulty,
     Faulty,
     Faulty,
+    Text(40),
+    Text(41),
+    Text(42),
+    Text(43),
+    Text(44),
+    Text(45),
+    Text(46),
+    Text(47),
     Sheet(Manner::Plain),
     Sheet(Manner::Plain),
     Sheet(Manner::Steep),
@@ -77,7 +92,11 @@ const ROUND: [Kind; 52] = [
     Sheet(Manner::Refused),
     Sheet(Manner::Arguments),
     FaultySheet,
+    TextSheet,
 ];
+
+/// Lists of a round.
+pub const ROUND_LISTS: usize = 61;
 
 /// One list and what it is, for a reader.
 pub struct Trial {
@@ -97,6 +116,10 @@ pub fn trial(seed: u64, number: usize, lists: usize) -> Trial {
     match kind {
         Sheet(manner) => sheet(manner, &mut random),
         FaultySheet => sheet(Manner::Faulty(fault_in_turn(number)), &mut random),
+        TextSheet => {
+            let fault = NUMBERS[turn(number) % NUMBERS.len()];
+            sheet(Manner::Text(fault), &mut random)
+        }
         _ => run(kind, number, random),
     }
 }
@@ -122,12 +145,16 @@ fn run(kind: Kind, number: usize, mut random: Random) -> Trial {
     let mut files = Files::of(&case);
     files.disguise(&mut random);
     let mut name = format!("{kind:?}");
-    if matches!(kind, Faulty) {
-        let fault = fault_in_turn(number);
-        put_in(&mut files, fault, &mut random);
-        name = format!("{fault:?}");
+    match kind {
+        Faulty => {
+            let fault = fault_in_turn(number);
+            put_in(&mut files, fault, &mut random);
+            name = format!("{fault:?}");
+        }
+        Text(fault) => put_in_table(&mut files, fault, &mut random),
+        _ => {}
     }
-    let case = (!matches!(kind, Faulty)).then_some(case);
+    let case = (!matches!(kind, Faulty | Text(_))).then_some(case);
     Trial { name, files, case }
 }
 
@@ -230,9 +257,12 @@ mod tests {
     fn every_fault_takes_its_turn() {
         let name = |number| trial(1, number, DEFAULT_LISTS).name;
         let kind = |number: usize| ROUND[number % ROUND.len()];
-        let is_faulty = |number: &usize| matches!(kind(*number), Faulty | FaultySheet);
+        let is_faulty = |number: &usize| {
+            let kind = kind(*number);
+            matches!(kind, Faulty | FaultySheet | Text(_) | TextSheet)
+        };
         let names: BTreeSet<String> = (0..DEFAULT_LISTS).filter(is_faulty).map(name).collect();
-        assert_eq!(names.len(), 2 * FAULTS.len());
+        assert_eq!(names.len(), 2 * FAULTS.len() + 2 * NUMBERS.len());
     }
 
     #[test]

@@ -4,6 +4,7 @@ use std::ffi::{OsStr, OsString};
 use std::os::unix::ffi::OsStrExt;
 
 use crate::faults::{put_in, Fault, NOT_DIGITS, TOO_LARGE};
+use crate::texts::put_in_table;
 use second::{MOST_BYTES, MOST_EVENTS};
 use trials::{any_share, damage, random_table, Case, Files, Random, Row, Shape, EDGES, SHAPES};
 
@@ -15,8 +16,10 @@ pub enum Manner {
     Steep,
     /// A table that is refused.
     Refused,
-    /// A table that cannot be read.
+    /// A table that is not there or has a fault.
     Faulty(Fault),
+    /// A table with a fault of this number.
+    Text(u32),
     /// Arguments that cannot be read.
     Arguments,
 }
@@ -56,8 +59,10 @@ pub fn sheet_files(manner: Manner, random: &mut Random) -> Files {
         ..Files::of(&case)
     };
     files.disguise(random);
-    if let Manner::Faulty(fault) = manner {
-        put_in(&mut files, fault, random);
+    match manner {
+        Manner::Faulty(fault) => put_in(&mut files, fault, random),
+        Manner::Text(number) => put_in_table(&mut files, number, random),
+        _ => {}
     }
     files
 }
@@ -137,6 +142,7 @@ mod tests {
     use std::fs;
 
     use super::*;
+    use crate::texts::NUMBERS;
     use second::program::Response;
     use trials::Folder;
 
@@ -226,9 +232,18 @@ mod tests {
     }
 
     #[test]
-    fn faults_and_wrong_arguments_cannot_be_read() {
+    fn faulty_tables_are_answered_with_their_number() {
         let faulty = answers(Manner::Faulty(Fault::NotDigits));
-        assert_eq!(begin(&faulty, "cannot read "), 300);
+        assert_eq!(begin(&faulty, "answer,place,second,count\r\n42,"), 300);
+        for number in NUMBERS {
+            let faulty = answers(Manner::Text(number));
+            let wanted = format!("answer,place,second,count\r\n{number},");
+            assert_eq!(begin(&faulty, &wanted), 300);
+        }
+    }
+
+    #[test]
+    fn wrong_arguments_cannot_be_read() {
         let wrong = answers(Manner::Arguments);
         assert_eq!(begin(&wrong, "cannot read"), 300);
         let said: BTreeSet<_> = wrong.iter().map(|answer| &answer.output).collect();

@@ -25,7 +25,9 @@ pub struct Tally {
     edges: Edges,
     identifiers: Identifiers,
     charged: Charged,
-    /// The lists on which the programs differ.
+    /// Texts of one table, damaged byte by byte, on which the programs agree.
+    texts: u64,
+    /// The lists and texts on which they differ.
     pub differing: Vec<usize>,
 }
 
@@ -34,6 +36,14 @@ impl Tally {
         match agreed {
             Some(answer) => self.counts[answer] += 1,
             None => self.differing.push(list),
+        }
+    }
+
+    /// These are the same in every run, so their answers are not counted.
+    pub fn add_text(&mut self, text: usize, agreed: Option<usize>) {
+        match agreed {
+            Some(_) => self.texts += 1,
+            None => self.differing.push(text),
         }
     }
 
@@ -57,6 +67,7 @@ impl Tally {
         for (count, more) in self.counts.iter_mut().zip(other.counts) {
             *count += more;
         }
+        self.texts += other.texts;
         self.choices += other.choices;
         self.edges += other.edges;
         self.identifiers += other.identifiers;
@@ -65,10 +76,10 @@ impl Tally {
     }
 
     pub fn passed(&self) -> u64 {
-        self.counts.iter().sum()
+        self.counts.iter().sum::<u64>() + self.texts
     }
 
-    /// A line for each answer, and one each for choices, lengths, identifiers and shares.
+    /// A line for each answer, and one each for choices, lengths, identifiers, shares and texts.
     pub fn text(&self) -> String {
         let line = |(answer, count): (usize, &u64)| format!("{}: {count}\n", answer_name(answer));
         let answers: String = self.counts.iter().enumerate().map(line).collect();
@@ -79,10 +90,12 @@ impl Tally {
         } = self.choices;
         format!(
             "{answers}choices: {made}, decided by the place: {by_place}, \
-             of these not the lowest row: {not_lowest}\n{}{}{}",
+             of these not the lowest row: {not_lowest}\n{}{}{}\
+             texts of one table, damaged byte by byte: {}\n",
             self.edges.text(),
             self.identifiers.text(),
-            self.charged.text()
+            self.charged.text(),
+            self.texts
         )
     }
 
@@ -164,15 +177,18 @@ mod tests {
         let mut other = Tally::default();
         other.add(1, Some(0));
         other.add(2, None);
+        other.add_text(7, None);
+        other.add_text(8, Some(41));
         other.look_inside(&packet(1));
         other.look_inside(&packet(MOST_BYTES + 1));
         tally.join(other);
-        assert_eq!(tally.passed(), 1);
-        assert_eq!(tally.differing, [4, 2]);
+        assert_eq!(tally.passed(), 2);
+        assert_eq!(tally.differing, [4, 2, 7]);
         let text = tally.text();
         assert!(text.contains("choices: 2, "));
         assert!(text.contains("packets: 2, of length 1: 1, "));
         assert!(text.contains("refused for length 9001: 1\n"));
-        assert!(text.ends_with("a class with a row's low bits: 0\nshares charged: 1 of 840\n"));
+        assert!(text.contains("a class with a row's low bits: 0\nshares charged: 1 of 840\n"));
+        assert!(text.ends_with("texts of one table, damaged byte by byte: 1\n"));
     }
 }

@@ -3,10 +3,13 @@
 use trials::{lines, Random};
 
 /// Bytes that such files are made of, and some that they are not.
-const COMMON: &[u8] = b"0123456789012345678901234567890123456789,,,,,,\n\n\n\r \t-+x\0\xff";
+const COMMON: &[u8] =
+    b"0123456789012345678901234567890123456789,,,,,,\n\n\n\r\r\r \t;\"-+.%x\0\xff";
 
-const NUMBERS: [&str; 19] = [
+const NUMBERS: [&str; 21] = [
     "0",
+    "00",
+    "0840",
     "1",
     "756",
     "840",
@@ -37,7 +40,7 @@ const LONG: usize = 100_000;
 /// Damages the bytes once; `other` is what they may be spliced with. Where it is gentle,
 /// what is left can mostly be read.
 pub fn damage(bytes: &mut Vec<u8>, other: &[u8], gentle: bool, random: &mut Random) {
-    match random.below(if gentle { 5 } else { 12 }) {
+    match random.below(if gentle { 5 } else { 13 }) {
         0 | 1 => number(bytes, gentle, random),
         2..=4 => whole_lines(bytes, gentle, random),
         5 => flip(bytes, random),
@@ -45,6 +48,7 @@ pub fn damage(bytes: &mut Vec<u8>, other: &[u8], gentle: bool, random: &mut Rand
         8 => insert(bytes, random),
         9 => drop(bytes.drain(stretch(bytes, random))),
         10 => repeat(bytes, random),
+        11 => line_end(bytes, random),
         _ if random.one_in(2) => bytes.truncate(random.below(bytes.len() + 1)),
         _ => splice(bytes, other, random),
     }
@@ -85,6 +89,17 @@ fn repeat(bytes: &mut Vec<u8>, random: &mut Random) {
     let range = stretch(bytes, random);
     let again = bytes[range.clone()].to_vec();
     bytes.splice(range.end..range.end, again);
+}
+
+/// Ends some line in another way.
+fn line_end(bytes: &mut Vec<u8>, random: &mut Random) {
+    let mut all = lines(bytes);
+    let place = random.below(all.len().max(1));
+    if let Some(line) = all.get_mut(place) {
+        line.truncate(line.trim_ascii_end().len());
+        line.extend(random.pick(&[&b"\n"[..], b"\r\n", b"\r", b"\r\r\n", b""]));
+        *bytes = all.concat();
+    }
 }
 
 /// The beginning of one and the end of the other.

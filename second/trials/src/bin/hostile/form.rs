@@ -13,14 +13,14 @@ pub fn is_whole(printed: &Printed) -> bool {
     if output.starts_with("cannot read") {
         return is_line(&output) && error.is_empty();
     }
-    let Some(body) = output.strip_suffix('\n') else {
-        return false;
+    let Some(body) = output.strip_suffix("\r\n") else {
+        return error.is_empty() && is_sheet(&output);
     };
-    let lines: Vec<&str> = body.split('\n').collect();
+    let lines: Vec<&str> = body.split("\r\n").collect();
     match lines[..] {
         [ANSWER, answer] => is_refusal(answer, &error),
         [ANSWER, answer, "order", ref rest @ ..] => error.is_empty() && are_results(answer, rest),
-        _ => error.is_empty() && is_sheet(body),
+        _ => false,
     }
 }
 
@@ -28,7 +28,7 @@ fn is_line(text: &str) -> bool {
     text.find('\n') == Some(text.len() - 1)
 }
 
-/// So many numbers, the last of which may be below 0.
+/// So many numbers, the last of which may be below 0; no part of a line end is left in them.
 fn are_numbers(line: &str, count: usize) -> bool {
     let is_number = |field: &str| field.parse::<i128>().is_ok_and(|n| n.to_string() == field);
     line.split(',').count() == count && line.split(',').all(is_number)
@@ -52,7 +52,11 @@ fn are_results(answer: &str, rest: &[&str]) -> bool {
     packets && *heading == ROWS && rows.len() > 1 && rows.iter().all(|row| are_numbers(row, 7))
 }
 
-fn is_sheet(body: &str) -> bool {
+/// The lines of a sheet end in LF.
+fn is_sheet(output: &str) -> bool {
+    let Some(body) = output.strip_suffix('\n') else {
+        return false;
+    };
     let mut parts = body.split("\n\n");
     let first = parts.next().unwrap_or("");
     let is_class = |part: &str| {
@@ -63,7 +67,8 @@ fn is_sheet(body: &str) -> bool {
     };
     let parts: Vec<&str> = parts.collect();
     let begins = first.starts_with("own bytes ") && !first.contains('\n');
-    begins && !parts.is_empty() && parts.into_iter().all(is_class)
+    let plain = !output.contains('\r');
+    plain && begins && !parts.is_empty() && parts.into_iter().all(is_class)
 }
 
 #[cfg(test)]
@@ -90,8 +95,9 @@ mod tests {
 
     #[test]
     fn a_refusal_has_its_sentence() {
-        let output = "answer,place,second,count\n5,2,1,0\n";
+        let output = "answer,place,second,count\r\n5,2,1,0\r\n";
         assert!(whole(output, "refused 5: row 2 ..; mend it.\n"));
+        assert!(!whole(output, "refused 5: row 2 ..; mend it.\r\n"));
         assert!(!whole(output, ""));
         assert!(!whole(output, "refused 4: row 2 ..; mend it.\n"));
         assert!(!whole(output, "refused 5: one.\nrefused 5: two.\n"));
@@ -99,16 +105,30 @@ mod tests {
 
     #[test]
     fn results_have_all_their_lines() {
-        let rows = "identifier,bytes,start,finish,virtual,held,lag\n\
-                    1,0,0,0,0,0,0\n2,0,0,0,0,0,-5\n";
+        let rows = "identifier,bytes,start,finish,virtual,held,lag\r\n\
+                    1,0,0,0,0,0,0\r\n2,0,0,0,0,0,-5\r\n";
         let output = |count: usize, order: &str| {
-            format!("answer,place,second,count\n0,0,0,{count}\norder\n{order}{rows}")
+            format!("answer,place,second,count\r\n0,0,0,{count}\r\norder\r\n{order}{rows}")
         };
-        assert!(whole(&output(2, "0\n1\n"), ""));
-        assert!(!whole(&output(2, "0\n"), ""));
-        assert!(!whole(&output(1, "0\n1\n"), ""));
-        assert!(!whole(&output(1, "+1\n"), ""));
+        assert!(whole(&output(2, "0\r\n1\r\n"), ""));
+        assert!(!whole(&output(2, "0\r\n"), ""));
+        assert!(!whole(&output(1, "0\r\n1\r\n"), ""));
+        assert!(!whole(&output(1, "+1\r\n"), ""));
         assert!(!whole(output(0, "").trim_end(), ""));
+    }
+
+    #[test]
+    fn each_line_of_results_ends_in_cr_lf() {
+        let rows = "1,0,0,0,0,0,0\r\n2,0,0,0,0,0,-5\r\n";
+        let output = format!("{ANSWER}\r\n0,0,0,1\r\norder\r\n0\r\n{ROWS}\r\n{rows}");
+        assert!(whole(&output, ""));
+        for line in 0..output.matches("\r\n").count() {
+            let (end, _) = output.match_indices("\r\n").nth(line).expect("it is there");
+            for end_bytes in ["\n", "\r", "\r\r\n", "\n\r"] {
+                let other = [&output[..end], end_bytes, &output[end + 2..]].concat();
+                assert!(!whole(&other, ""));
+            }
+        }
     }
 
     #[test]
@@ -122,6 +142,8 @@ mod tests {
         let alone = exact.replace("  the line ..\n", "");
         assert!(!whole(&format!("{first}{alone}"), ""));
         assert!(!whole(first, ""));
+        let with_cr = format!("{first}{class}").replace('\n', "\r\n");
+        assert!(!whole(&with_cr, ""));
         assert!(!whole(&format!("{first}{class}\nclass 3 (row 2)\n"), ""));
     }
 }

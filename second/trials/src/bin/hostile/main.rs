@@ -2,6 +2,7 @@
 #![forbid(unsafe_code)]
 
 mod equal;
+mod faulty;
 mod form;
 mod identifiers;
 mod long;
@@ -19,7 +20,7 @@ use std::path::Path;
 use std::process::ExitCode;
 
 use plan::{trials, Input, Trial};
-use trials::{counted, folders, Bench, Both, End, Folder, Printed, Program};
+use trials::{counted, folders, Bench, Both, End, Folder, Printed};
 
 /// Bytes of each stream that are shown of a run that goes wrong.
 const SHOWN: usize = 400;
@@ -71,7 +72,7 @@ fn outcome(trial: &Trial, bench: &Bench, folder: &Path) -> Result<Outcome> {
         }
     }
     let both = bench.over(trial.program, &arguments)?;
-    Ok(match is_right(trial.program, &both) {
+    Ok(match is_right(trial, &both) {
         true => Outcome::Passed,
         false => Outcome::Failed(both),
     })
@@ -105,9 +106,9 @@ fn argument(input: &Input, path: &Path) -> Result<Option<OsString>> {
 }
 
 /// The proved program has ended by itself, with a whole answer, and as the second one.
-fn is_right(program: Program, both: &Both) -> bool {
+fn is_right(trial: &Trial, both: &Both) -> bool {
     let [proved, second] = &both.0;
-    let [name, other] = program.names();
+    let [name, other] = trial.program.names();
     // Told how it is called, each program gives its own name.
     let usage = format!(", {other} TABLE EVENTS\n");
     let expected = match second.output.strip_suffix(usage.as_bytes()) {
@@ -116,7 +117,15 @@ fn is_right(program: Program, both: &Both) -> bool {
     };
     let ended = [proved, second].iter().all(|p| p.end == End::Status(0));
     let alike = proved.output == expected && proved.error == second.error;
-    ended && alike && form::is_whole(proved)
+    ended && alike && form::is_whole(proved) && is_answered(trial, proved)
+}
+
+/// Whether the answer is the one that the trial says, if it says one.
+fn is_answered(trial: &Trial, printed: &Printed) -> bool {
+    trial.answer.is_none_or(|[number, place]| {
+        let wanted = format!("answer,place,second,count\r\n{number},{place},0,0\r\n");
+        printed.output == wanted.as_bytes()
+    })
 }
 
 fn show(trial: &Trial, both: &Both) {

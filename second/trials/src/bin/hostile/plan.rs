@@ -5,6 +5,7 @@ use std::fmt;
 use std::os::unix::ffi::OsStrExt;
 
 use crate::equal::equal_finishes;
+use crate::faulty::faulty_tables;
 use crate::identifiers::all_identifiers;
 use crate::long::longest_packets;
 use crate::rounding::close_finishes;
@@ -12,7 +13,8 @@ use crate::shares::all_shares;
 use crate::texts::{damaged, lengthened, Text};
 use trials::{Case, Program};
 
-pub const TABLE: &str = "identifier,parent,share\n1,0,0\n2,1,420\n3,1,420\n4,2,420\n5,2,420\n";
+pub const TABLE: &str =
+    "identifier,parent,share\r\n1,0,0\r\n2,1,420\r\n3,1,420\r\n4,2,420\r\n5,2,420\r\n";
 pub const EVENTS: &str = "class,length\n4,100\n3,100\n5,100\n0,0\n0,0\n4,1500\n";
 
 /// Numbers of arguments that no program takes, and one far beyond.
@@ -36,6 +38,8 @@ pub struct Trial {
     pub name: String,
     pub program: Program,
     pub inputs: Vec<Input>,
+    /// The number and the place that must be answered, where the trial says so.
+    pub answer: Option<[u32; 2]>,
 }
 
 impl fmt::Display for Trial {
@@ -50,6 +54,12 @@ pub fn trials() -> Vec<Trial> {
     for text in tables() {
         all.extend(with_table(&text.name, Input::Bytes(text.bytes)));
     }
+    for table in faulty_tables() {
+        let answer = Some(table.answer);
+        let both = with_table(&table.name, Input::Bytes(table.bytes));
+        all.extend(both.map(|trial| Trial { answer, ..trial }));
+    }
+    all.extend(table_before_events());
     for text in lists() {
         all.push(with_events(&text.name, Input::Bytes(text.bytes)));
     }
@@ -92,6 +102,7 @@ fn with_table(name: &str, table: Input) -> [Trial; 2] {
         name: format!("table: {name}"),
         program,
         inputs: [vec![table.clone()], rest].concat(),
+        answer: None,
     };
     [
         trial(Program::Replay, vec![bytes(EVENTS)]),
@@ -104,7 +115,31 @@ fn with_events(name: &str, events: Input) -> Trial {
         name: format!("events: {name}"),
         program: Program::Replay,
         inputs: vec![bytes(TABLE), events],
+        answer: None,
     }
+}
+
+/// Tables that are not there, faulty or refused, each with events that are not there or faulty.
+fn table_before_events() -> Vec<Trial> {
+    let missing = plain("/no such folder/file.csv");
+    let tables = [
+        ("a missing table", missing.clone(), None),
+        ("a faulty table", bytes("x"), Some([41, 1])),
+        ("a refused table", bytes(&TABLE[..25]), None),
+    ];
+    let events = [("missing", missing), ("faulty", bytes("x\n"))];
+    let mut all = Vec::new();
+    for (name, table, answer) in tables {
+        for (what, events) in &events {
+            all.push(Trial {
+                name: format!("{name}, {what} events"),
+                program: Program::Replay,
+                inputs: vec![table.clone(), events.clone()],
+                answer,
+            });
+        }
+    }
+    all
 }
 
 fn with_lists(what: &str, lists: Vec<(String, Case)>) -> impl Iterator<Item = Trial> + '_ {
@@ -112,6 +147,7 @@ fn with_lists(what: &str, lists: Vec<(String, Case)>) -> impl Iterator<Item = Tr
         name: format!("{what}: {name}"),
         program: Program::Replay,
         inputs: vec![bytes(&case.table_text()), bytes(&case.event_text())],
+        answer: None,
     })
 }
 
@@ -145,6 +181,7 @@ fn numbers_of_arguments() -> Vec<Trial> {
         name: format!("{count} arguments"),
         program,
         inputs: vec![bytes(text); count],
+        answer: None,
     };
     let mut all = Vec::new();
     for count in [0, 1].into_iter().chain(MANY) {
@@ -214,6 +251,7 @@ fn sheet_arguments() -> Vec<Trial> {
             name: format!("{name} {shown:?} of {} bytes", value.len()),
             program: Program::Promise,
             inputs: [vec![bytes(TABLE)], rest].concat(),
+            answer: None,
         }
     };
     let mut all = Vec::new();

@@ -21,8 +21,8 @@ const CHANGES: [(&str, bool); 8] = [
     ("<&- >&- 2>&-", false),
 ];
 
-/// Tables that are accepted, refused, and not read.
-const TABLES: [&str; 3] = [TABLE, "identifier,parent,share\n1,0,0\n", "x\n"];
+/// Tables that are accepted, refused, and faulty.
+const TABLES: [&str; 3] = [TABLE, "identifier,parent,share\r\n1,0,0\r\n", "x\n"];
 
 /// The names of the runs that go wrong, and how many runs there are in all.
 pub fn failures(bench: &Bench, folder: &Path) -> Result<(Vec<String>, usize)> {

@@ -2,8 +2,9 @@
 
 use trials::{lines, Random};
 
-/// Bytes of a line that is far longer than any number.
-const LONG: usize = 5_000_000;
+/// Bytes of a line that is far longer than any number; of a table's text no more are read than
+/// the first of them leaves room for.
+const LONG: [usize; 2] = [60_000, 5_000_000];
 
 /// Bytes of a file of random bytes.
 const RANDOM: usize = 65_536;
@@ -38,7 +39,9 @@ pub fn damaged(good: &str) -> Vec<Text> {
         cut(good),
         ends(good),
         other_codes(good),
-        long_lines(good),
+        LONG.into_iter()
+            .flat_map(|long| long_lines(good, long))
+            .collect(),
         fields(good),
         field_counts(good),
     ]
@@ -47,44 +50,54 @@ pub fn damaged(good: &str) -> Vec<Text> {
     .collect()
 }
 
+/// The end of each of its lines.
+fn end(good: &str) -> &'static str {
+    match good.ends_with("\r\n") {
+        true => "\r\n",
+        false => "\n",
+    }
+}
+
 fn heading(good: &str) -> &str {
     good.split_inclusive('\n').next().unwrap_or(good)
 }
 
 /// The text with its last line replaced.
 fn with_last(good: &str, last: &str) -> String {
-    let body = good.trim_end_matches('\n');
+    let body = good.trim_end();
     let before = body.rfind('\n').map_or(0, |at| at + 1);
-    format!("{}{last}\n", &good[..before])
+    format!("{}{last}{}", &good[..before], end(good))
 }
 
 fn cut(good: &str) -> Vec<Text> {
     let heading = heading(good);
-    let without_end = |text: &str| text.trim_end_matches('\n').to_string();
-    let in_number = with_last(good, "1,234");
+    let without_end = |text: &str| text.trim_end().to_string();
+    let in_number = without_end(&with_last(good, "1,234"));
     vec![
         text("empty", ""),
-        text("one line end", "\n"),
+        text("one line end", end(good)),
         text("heading alone", heading),
         text("heading without end", without_end(heading)),
         text("heading cut", &heading[..5]),
         text("no heading", &good[heading.len()..]),
         text("last line without end", without_end(good)),
-        text("cut inside a number", &in_number[..in_number.len() - 2]),
+        text("cut inside a number", &in_number[..in_number.len() - 1]),
     ]
 }
 
 fn ends(good: &str) -> Vec<Text> {
-    let with = |end: &str| good.replace('\n', end);
-    vec![
-        text("CR alone", with("\r")),
-        text("CR LF", with("\r\n")),
-        text("CR CR LF", with("\r\r\n")),
-        text("LF LF", with("\n\n")),
-        text("LF CR", with("\n\r")),
+    let own = end(good);
+    let others = ["\r", "\n", "\r\n", "\r\r\n", "\n\n", "\n\r"];
+    let with = |other: &str| {
+        let name = format!("lines that end in {other:?}");
+        text(name, good.replace(own, other))
+    };
+    let others = others.into_iter().filter(|other| *other != own);
+    let last = [
         text("a line of one CR at the end", format!("{good}\r")),
-        text("an empty line at the end", format!("{good}\n")),
-    ]
+        text("an empty line at the end", format!("{good}{own}")),
+    ];
+    others.map(with).chain(last).collect()
 }
 
 fn other_codes(good: &str) -> Vec<Text> {
@@ -101,7 +114,10 @@ fn other_codes(good: &str) -> Vec<Text> {
     vec![
         text("NUL bytes alone", vec![0; 1000]),
         text("NUL bytes at the end", format!("{good}\0\0\0")),
-        text("a NUL byte for each line end", good.replace('\n', "\0")),
+        text(
+            "a NUL byte for each line end",
+            good.replace(end(good), "\0"),
+        ),
         text("random bytes", bytes()),
         text("random bytes below", [good.as_bytes(), &bytes()].concat()),
         text("UTF-8 mark", format!("\u{feff}{good}")),
@@ -111,25 +127,24 @@ fn other_codes(good: &str) -> Vec<Text> {
     ]
 }
 
-fn long_lines(good: &str) -> Vec<Text> {
-    let digits = "7".repeat(LONG);
-    let commas = ",".repeat(LONG);
-    let zeros = "0".repeat(LONG);
-    vec![
-        text("5 MB of digits", &digits[..]),
-        text("5 MB of digits as a heading", format!("{digits}\n")),
-        text("5 MB of digits as a line", with_last(good, &digits)),
-        text("5 MB of commas as a line", with_last(good, &commas)),
-        text("5 MB of commas", commas),
-        text("5 MB of digits before the last line", {
-            good.replacen('\n', &format!("\n{digits}"), 1)
-        }),
-        text(
-            "5 MB of leading zeros",
-            good.replacen('\n', &format!("\n{zeros}"), 1),
-        ),
-        text("5 MB of line ends", format!("{good}{}", "\n".repeat(LONG))),
-    ]
+fn long_lines(good: &str, long: usize) -> Vec<Text> {
+    let end = end(good);
+    let [digits, commas, zeros] = ["7", ",", "0"].map(|byte| byte.repeat(long));
+    let ends = end.repeat(long / end.len());
+    let below = |text: &str| good.replacen('\n', &format!("\n{text}"), 1);
+    let texts = [
+        ("digits as a heading", format!("{digits}{end}")),
+        ("digits as a line", with_last(good, &digits)),
+        ("commas as a line", with_last(good, &commas)),
+        ("digits before the first line", below(&digits)),
+        ("leading zeros", below(&zeros)),
+        ("line ends", format!("{good}{ends}")),
+        ("digits", digits),
+        ("commas", commas),
+    ];
+    texts
+        .map(|(name, bytes)| text(format!("{long} bytes of {name}"), bytes))
+        .into()
 }
 
 /// Each wrong field in each place of the last line.
@@ -181,18 +196,23 @@ mod tests {
     use super::*;
 
     const GOOD: &str = "class,length\n10,100\n20,100\n";
+    const WITH_CR: &str = "class,length\r\n10,100\r\n20,100\r\n";
 
     #[test]
     fn names_are_distinct_and_nothing_stays_as_it_was() {
-        let texts = damaged(GOOD);
-        let names: std::collections::BTreeSet<_> = texts.iter().map(|t| &t.name).collect();
-        assert_eq!(names.len(), texts.len());
-        assert!(texts.iter().all(|text| text.bytes != GOOD.as_bytes()));
+        for good in [GOOD, WITH_CR] {
+            let texts = damaged(good);
+            let names: std::collections::BTreeSet<_> = texts.iter().map(|t| &t.name).collect();
+            assert_eq!(names.len(), texts.len());
+            assert!(texts.iter().all(|text| text.bytes != good.as_bytes()));
+        }
     }
 
     #[test]
     fn the_last_line_is_replaced_or_repeated() {
         assert_eq!(with_last(GOOD, "1"), "class,length\n10,100\n1\n");
+        let with_cr = with_last(WITH_CR, "1");
+        assert_eq!(with_cr, "class,length\r\n10,100\r\n1\r\n");
         let longer = lengthened(GOOD, 4).bytes;
         assert_eq!(longer, format!("{GOOD}20,100\n20,100\n").into_bytes());
     }

@@ -1,0 +1,2 @@
+-- What reading a table asks of its parts.
+pub mod Kept

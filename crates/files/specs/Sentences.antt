@@ -1,0 +1,39 @@
+-- What is said of a file that cannot be read.
+use Prim.Native.Nat.{ℕ, _+_, _-_, _^_, min}
+use mathlib.Core.List.{List, [], _++_}
+use Rattle.output.specs.Numbers.{decimal}
+use Rattle.output.specs.Quoted.{bytes-of}
+use Rattle.text.specs.declared.Found.{Found}
+use Rattle.text.specs.declared.Found.the-variants.{Nothing, Row, NoEnd, WrongHeading, WrongCount, NoNumber, TooLarge}
+use Rattle.text.specs.Reading.{most}
+
+-- a file, by its name
+unfoldable pub unread : List ℕ → List ℕ
+unread name = bytes-of "cannot read " ++ name
+
+unfoldable pub cannot-open : List ℕ → List ℕ
+cannot-open name = unread name ++ bytes-of ": it is missing or cannot be read\n"
+
+-- a field, by its place in the line, from 1
+unfoldable pub field : ℕ → List ℕ → List ℕ
+field place why = (bytes-of "field " ++ decimal place) ++ why
+
+unfoldable pub too-large : ℕ → List ℕ
+too-large place = field place (bytes-of " is over ") ++ decimal most
+
+-- what is wrong with a line
+unfoldable pub fault : Found → List ℕ
+fault Nothing = []
+fault (Row a b) = []
+fault NoEnd = bytes-of "the line has no end"
+fault WrongHeading = bytes-of "the heading must be class,length"
+fault WrongCount = bytes-of "2 numbers are wanted"
+fault (NoNumber place) = field place (bytes-of " is not a decimal number")
+fault (TooLarge place) = too-large place
+
+-- the line after so many lines; scans count them up to 2 ^ 63
+unfoldable pub line-after : ℕ → List ℕ
+line-after lines = bytes-of ", line " ++ (decimal (min (lines + 1) (2 ^ 64 - 1)) ++ bytes-of ": ")
+
+unfoldable pub cannot-read : List ℕ → ℕ → Found → List ℕ
+cannot-read name lines found = unread name ++ (line-after lines ++ (fault found ++ bytes-of "\n"))

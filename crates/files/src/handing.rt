@@ -1,0 +1,18 @@
+// Handing what is put on a page over to the system.
+use input::Answer;
+use libc::STDOUT_FILENO;
+
+// Writes what is used of the page, and answers whether all of it was written.
+pub fn hand_over(to: i32, page: &[u8], used: usize) -> bool {
+    if used <= page.len() {
+        return io::write_all(to, &page[..used]);
+    }
+    false
+}
+
+// Prints an answer's two lines, and answers whether they were written.
+pub fn print_answer(answer: Answer) -> bool {
+    let mut page = [0u8; 512];
+    let used = lines::put_answer(&mut page, 0, answer);
+    hand_over(STDOUT_FILENO, &page, used)
+}
