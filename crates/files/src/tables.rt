@@ -14,7 +14,7 @@ use libc::STDERR_FILENO;
 use sentences::HELD_BYTES;
 
 // Reads the table that an argument names. Of a text with a fault it prints the answer and, once that is written, says to standard
-// error what to mend. Rows that the slices have no room for are counted and not kept.
+// error what to mend. Where the slices have no room for all rows these are counted, and none is kept.
 pub fn load_table(
     argument: usize,
     identifiers: &mut [u32],
