@@ -15,7 +15,7 @@ use Rattle.text.specs.Reading.{most}
 use Rattle.output.specs.Pages.{Page, page-of, with-byte, with-text, Puts}
 use Rattle.output.proofs.Pages.{with-all}
 use Rattle.output.proofs.Numbers.{decimal-length}
-use Rattle.files.specs.Sentences.{unread, cannot-open, field, too-large, fault, line-after, cannot-read}
+use Rattle.files.specs.Sentences.{unread, cannot-open, too-long, field, too-large, fault, line-after, cannot-read}
 use Rattle.output.specs.Quoted.{bytes-of}
 
 -- ── any text ──
@@ -64,6 +64,10 @@ open-length : (name : List ℕ) → length (cannot-open name) ≤ length name + 
 unfolding bytes-of unread cannot-open
 open-length name = simp length-append (omega arith)
 
+long-length : (name : List ℕ) (held : ℕ) → length (too-long name held) ≤ length name + 200
+unfolding bytes-of unread too-long
+long-length name held = simp length-append (omega (arith, decimal-length held))
+
 read-length : (name : List ℕ) (lines : ℕ) (found : Found) → length (cannot-read name lines found) ≤ length name + 200
 unfolding bytes-of unread line-after cannot-read
 read-length name lines found =
@@ -73,6 +77,9 @@ read-length name lines found =
 module _ (name bytes bytes' : List ℕ) (used : ℕ) (short : length name ≤ 131072) (room : length bytes ≡ 131584) where
   pub opened-whole : Puts (cannot-open name) bytes 0 bytes' used → take used bytes' ≡ cannot-open name
   opened-whole put = put-whole (cannot-open name) bytes bytes' used put (omega (arith, open-length name))
+
+  pub long-whole : (held : ℕ) → Puts (too-long name held) bytes 0 bytes' used → take used bytes' ≡ too-long name held
+  long-whole held put = put-whole (too-long name held) bytes bytes' used put (omega (arith, long-length name held))
 
   pub read-whole :
       (lines : ℕ) (found : Found) → Puts (cannot-read name lines found) bytes 0 bytes' used

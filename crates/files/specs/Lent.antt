@@ -17,3 +17,8 @@ pub record Gives (room : ℕ) (r : Part) : Type 0 where
 pub record Holds (before now : List ℕ) (r : Held) : Type 0 where
   pub room : length now ≡ length before
   pub within : r .size ≤ suc (length before)
+
+-- the same of a file that is held whole or not at all
+pub record HoldsAll (before now : List ℕ) (r : Held) : Type 0 where
+  pub room : length now ≡ length before
+  pub within : r .size ≤ length before

@@ -14,6 +14,12 @@ unread name = bytes-of "cannot read " ++ name
 unfoldable pub cannot-open : List ℕ → List ℕ
 cannot-open name = unread name ++ bytes-of ": it is missing or cannot be read\n"
 
+-- of more bytes than so many
+unfoldable pub too-long : List ℕ → ℕ → List ℕ
+too-long name most =
+    unread name
+    ++ (bytes-of ": it has more than " ++ (decimal most ++ bytes-of " bytes; cut its packets down, say with editcap -F pcap -s 64\n"))
+
 -- a field, by its place in the line, from 1
 unfoldable pub field : ℕ → List ℕ → List ℕ
 field place why = (bytes-of "field " ++ decimal place) ++ why

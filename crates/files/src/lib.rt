@@ -1,4 +1,4 @@
-// Class tables and lists of events in files: reading one into columns, what is said where it cannot be read, and handing a page over.
+// Class tables, lists of events and captures in files: reading one, what is said where it cannot be read, and handing a page over.
 mod handing;
 mod reading;
 mod tables;
@@ -10,6 +10,7 @@ pub use handing::print_answer;
 pub use reading::first;
 pub use reading::load;
 pub use tables::load_table;
+pub use whole::load_capture;
 
 // Whether a file could be read, and how many lines of numbers it has.
 pub struct Loaded {

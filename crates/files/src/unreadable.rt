@@ -20,6 +20,13 @@ pub fn cannot_open(name: &[u8]) {
     io::write_all(STDOUT_FILENO, &page[..used]);
 }
 
+// A capture that has more bytes than so many.
+pub fn too_long(name: &[u8], most: usize) {
+    let mut page = [0u8; PAGE];
+    let used = put_too_long(&mut page, name, most);
+    io::write_all(STDOUT_FILENO, &page[..used]);
+}
+
 // What is wrong in the line after these lines.
 pub fn cannot_read(name: &[u8], lines: u64, found: Found) {
     let mut page = [0u8; PAGE];
@@ -32,6 +39,19 @@ fn put_cannot_open(page: &mut [u8], name: &[u8]) -> usize
 {
     let used = put_unread(page, name);
     put_text(page, used, b": it is missing or cannot be read\n")
+}
+
+fn put_too_long(page: &mut [u8], name: &[u8], most: usize) -> usize
+    ensures { λ r. ⌜ Puts (sentences.too-long (now (name .entry)) most) (now (page .entry)) 0 (now (page .exit)) r ⌝ }
+{
+    let used = put_unread(page, name);
+    let used = put_text(page, used, b": it has more than ");
+    let used = put_number(page, used, most as u64);
+    put_text(
+        page,
+        used,
+        b" bytes; cut its packets down, say with editcap -F pcap -s 64\n",
+    )
 }
 
 fn put_cannot_read(page: &mut [u8], name: &[u8], lines: u64, found: Found) -> usize

@@ -1,10 +1,11 @@
 // Reading a file into lent bytes.
-ghost use Rattle.files.specs.Lent.{Holds, Gives};
+ghost use Rattle.files.specs.Lent.{Holds, HoldsAll, Gives};
 ghost use Prim.Native.Nat.{suc, _-_, _^_, _<_, _≤_};
 ghost use lib.ListN.{length};
 use crate::Held;
 use crate::Part;
 use crate::unreadable::cannot_open;
+use crate::unreadable::too_long;
 
 // Reads the file that an argument names, and says so if it cannot be read. The longest argument that the system passes has
 // 131,071 bytes.
@@ -14,6 +15,29 @@ pub fn load_text(argument: usize, text: &mut [u8]) -> Held
     let mut name = [0u8; 131072];
     let length = os::arg(argument, &mut name);
     load_named(&name[..length], text)
+}
+
+// Reads the capture that an argument names, and says so if it cannot be read or has more bytes than are lent.
+pub fn load_capture(argument: usize, capture: &mut [u8]) -> Held
+    ensures { λ r. ⌜ HoldsAll (now (capture .entry)) (now (capture .exit)) r ⌝ }
+{
+    let mut name = [0u8; 131072];
+    let length = os::arg(argument, &mut name);
+    load_all(&name[..length], capture)
+}
+
+fn load_all(name: &[u8], capture: &mut [u8]) -> Held
+    ensures { λ r. ⌜ HoldsAll (now (capture .entry)) (now (capture .exit)) r ⌝ }
+{
+    let held = load_named(name, capture);
+    if held.size <= capture.len() {
+        return held;
+    }
+    too_long(name, capture.len());
+    Held {
+        good: false,
+        size: 0,
+    }
 }
 
 fn load_named(name: &[u8], text: &mut [u8]) -> Held

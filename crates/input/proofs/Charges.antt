@@ -52,7 +52,7 @@ module _ (n d : ℕ) (some : 0 < d) where
       go (no left) = let parts = div-add-mod n d in rw (rounded-more left) (omega arith)
 
 -- a quotient rounded up is no more than what was divided
-rounded-most : (n d : ℕ) → rounded-up n d ≤ n
+pub rounded-most : (n d : ℕ) → rounded-up n d ≤ n
 rounded-most n d = go (ℕ-discrete d 0) (decLe (rounded-up n d) n)
   where
     go : Dec (d ≡ 0) → Dec (rounded-up n d ≤ n) → rounded-up n d ≤ n

@@ -20,7 +20,7 @@ use output::put_then;
 use output::put_word;
 
 // CR LF.
-fn put_end(page: &mut [u8], used: usize) -> usize
+pub fn put_end(page: &mut [u8], used: usize) -> usize
     ensures { λ r. ⌜ Puts line-end (now (page .entry)) used (now (page .exit)) r ⌝ }
 {
     let used = put_byte(page, used, 13);
@@ -113,7 +113,7 @@ fn put_fields(page: &mut [u8], used: usize, report: &[u64], row: usize) -> usize
 }
 
 // A number and a comma.
-fn put_field(page: &mut [u8], used: usize, n: u64) -> usize
+pub fn put_field(page: &mut [u8], used: usize, n: u64) -> usize
     ensures { λ r. ⌜ Puts (decimal n ++ comma ∷ []) (now (page .entry)) used (now (page .exit)) r ⌝ }
 {
     let used = put_number(page, used, n);

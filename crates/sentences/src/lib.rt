@@ -8,6 +8,7 @@ use input::MOST_ROWS;
 pub use refusals::put_packet_bytes;
 pub use refusals::sentence;
 pub use refusals::table_sentence;
+pub use templates::fill;
 
 // The rows that a program holds: one more than a table may have, so that a row too many is seen.
 pub const HELD_ROWS: usize = MOST_ROWS + 1;

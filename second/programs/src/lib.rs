@@ -1,7 +1,9 @@
-//! A replayer for a hierarchical packet scheduler in whole numbers, and the sheet of its promise.
+//! A replayer for a hierarchical packet scheduler in whole numbers, over lists and captures, and the
+//! sheet of its promise.
 #![forbid(unsafe_code)]
 
 mod answer;
+pub mod capture;
 mod counts;
 mod csv;
 mod events;
@@ -27,5 +29,5 @@ pub use report::REPORT_WIDTH;
 pub use run::{inside, run, MOST_EVENTS, MOST_ROWS};
 pub use sentences::sentence;
 pub use shares::{charge, is_exact, UNIT_COST, WHOLE};
-pub use slices::{EventSlices, Lent, Room, TableRoom, TableSlices};
+pub use slices::{EventRoom, EventSlices, Lent, Room, TableRoom, TableSlices};
 pub use table::{MOST_DEPTH, MOST_IDENTIFIER};

@@ -81,11 +81,21 @@ fn read_events(file: &OsStr) -> Result<[Vec<u32>; 2], Response> {
 }
 
 fn read_file(file: &OsStr) -> Result<Vec<u8>, Response> {
-    fs::read(file).map_err(|_| cannot_read(file, ": it is missing or cannot be read"))
+    fs::read(file).map_err(|_| unreadable(file))
+}
+
+/// The number in the argument of this name, or what is said of it.
+pub(crate) fn read_argument(name: &str, argument: &OsStr) -> Result<u32, Response> {
+    text::read_number(argument.as_encoded_bytes())
+        .map_err(|why| cannot_read(OsStr::new(name), &format!(": it is {why}")))
+}
+
+pub(crate) fn unreadable(file: &OsStr) -> Response {
+    cannot_read(file, ": it is missing or cannot be read")
 }
 
 /// The file's name is printed as it was given, so this is bytes and not a string.
-fn cannot_read(file: &OsStr, rest: &str) -> Response {
+pub(crate) fn cannot_read(file: &OsStr, rest: &str) -> Response {
     let line = [
         b"cannot read ",
         file.as_encoded_bytes(),
@@ -96,7 +106,7 @@ fn cannot_read(file: &OsStr, rest: &str) -> Response {
 }
 
 /// The answer on standard output and its sentence on standard error.
-fn refusal(answer: &Answer, sentence: &str) -> Response {
+pub(crate) fn refusal(answer: &Answer, sentence: &str) -> Response {
     Response {
         output: answer_text(answer).into_bytes(),
         error: format!("{sentence}\n").into_bytes(),

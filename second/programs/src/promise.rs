@@ -4,7 +4,7 @@ use std::ffi::{OsStr, OsString};
 
 use crate::answer::number_of;
 use crate::events::MOST_BYTES;
-use crate::program::{read_table, replay, Response};
+use crate::program::{read_argument, read_table, replay, Response};
 use crate::run::MOST_EVENTS;
 use crate::shares::is_exact;
 use crate::sheet::{climb, Figure};
@@ -49,8 +49,8 @@ fn read_and_work(arguments: &[OsString]) -> Result<Response, Response> {
     let largest = read_largest(largest)?;
     let numbers = Numbers {
         largest,
-        own: read_optional(" OWN", rest.first(), largest)?,
-        packets: read_optional(" PACKETS", rest.get(1), number_of(MOST_EVENTS))?,
+        own: read_optional("OWN", rest.first(), largest)?,
+        packets: read_optional("PACKETS", rest.get(1), number_of(MOST_EVENTS))?,
     };
     let table = read_table(file)?;
     Ok(refusal_or_sheet(&table.slices(), &numbers))
@@ -68,11 +68,7 @@ fn read_largest(argument: &OsStr) -> Result<u32, Response> {
 }
 
 fn read_optional(name: &str, argument: Option<&OsString>, default: u32) -> Result<u32, Response> {
-    let Some(argument) = argument else {
-        return Ok(default);
-    };
-    let read = read_number(argument.as_encoded_bytes());
-    read.map_err(|why| cannot_read(name, &format!("it is {why}")))
+    argument.map_or(Ok(default), |argument| read_argument(name, argument))
 }
 
 fn cannot_read(what: &str, why: &str) -> Response {

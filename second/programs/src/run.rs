@@ -46,17 +46,21 @@ pub fn inside(slices: TableSlices, events: EventSlices) -> Result<Inside, Answer
 /// Refusals 1, 2 and 3.
 fn check_lengths(table: &TableSlices, events: &EventSlices, lent: &Lent) -> Result<(), Answer> {
     check_rows(table)?;
-    let rows = table.identifiers.len();
     let count = events.classes.len();
     if events.lengths.len() != count || count > MOST_EVENTS {
         return Err(Answer::refused(2, 0));
     }
-    let events_short = lent.order.len() < count || lent.working.len() < count;
+    check_room(table.identifiers.len(), count, lent)
+}
+
+/// Refusal 3 for the results of so many rows and events.
+pub(crate) fn check_room(rows: usize, events: usize, lent: &Lent) -> Result<(), Answer> {
+    let events_short = lent.order.len() < events || lent.working.len() < events;
     let rows_short = lent.report.len() < REPORT_WIDTH * rows || lent.lags.len() < rows;
-    if events_short || rows_short {
-        return Err(Answer::refused(3, 0));
+    match events_short || rows_short {
+        true => Err(Answer::refused(3, 0)),
+        false => Ok(()),
     }
-    Ok(())
 }
 
 /// Refusal 1.
@@ -94,17 +98,22 @@ fn apply_all(
 fn apply(event: Event, place: usize, tree: &mut Tree, counts: &mut Counts) -> Result<(), Answer> {
     match event {
         Event::Arrival { row, length } => {
-            counts.arrived(row);
-            tree.arrive(Packet {
-                place: number_of(place),
-                row,
-                length,
-            });
+            let place = number_of(place);
+            arrive(Packet { place, row, length }, tree, counts);
+            Ok(())
         }
-        Event::Finish => {
-            let packet = tree.line_finished().ok_or(Answer::refused(14, place))?;
-            counts.finished(packet.row, packet.length);
-        }
+        Event::Finish => finish(tree, counts).ok_or(Answer::refused(14, place)),
     }
-    Ok(())
+}
+
+pub(crate) fn arrive(packet: Packet, tree: &mut Tree, counts: &mut Counts) {
+    counts.arrived(packet.row);
+    tree.arrive(packet);
+}
+
+/// Nothing if the line is idle.
+pub(crate) fn finish(tree: &mut Tree, counts: &mut Counts) -> Option<()> {
+    let packet = tree.line_finished()?;
+    counts.finished(packet.row, packet.length);
+    Some(())
 }

@@ -147,6 +147,15 @@ fn no_class(events: &EventSlices, event: usize) -> String {
 
 fn not_sending(table: &TableSlices, events: &EventSlices, event: usize) -> String {
     let class = word(events.classes, event);
+    format!(
+        "{} is for {}; name a class with no class below it.",
+        event_name(event),
+        not_sending_class(table, class)
+    )
+}
+
+/// A class that has a row and does not send, with why.
+pub(crate) fn not_sending_class(table: &TableSlices, class: u32) -> String {
     let found = table.identifiers.iter().position(|i| *i == class);
     let row = found.unwrap_or(0);
     let why = if row == 0 {
@@ -154,11 +163,7 @@ fn not_sending(table: &TableSlices, events: &EventSlices, event: usize) -> Strin
     } else {
         "has classes below it"
     };
-    format!(
-        "{} is for class {class}, {}, which {why}; name a class with no class below it.",
-        event_name(event),
-        row_name(row)
-    )
+    format!("class {class}, {}, which {why}", row_name(row))
 }
 
 fn length(events: &EventSlices, event: usize) -> String {

@@ -25,6 +25,13 @@ pub struct EventSlices<'a> {
     pub lengths: &'a [u32],
 }
 
+/// Where the event list that a capture makes goes.
+#[derive(Debug)]
+pub struct EventRoom<'a> {
+    pub classes: &'a mut [u32],
+    pub lengths: &'a mut [u32],
+}
+
 /// Where the results go, and the working slice.
 #[derive(Debug)]
 pub struct Lent<'a> {

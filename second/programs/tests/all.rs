@@ -1,6 +1,10 @@
 //! All tests of the package, as modules of one program.
 #![forbid(unsafe_code)]
 
+mod capture_lists;
+mod capture_program;
+mod capture_sentences;
+mod captures;
 mod common;
 mod limits;
 mod program;

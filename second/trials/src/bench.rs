@@ -6,11 +6,12 @@ use std::io::{Error, Result};
 use std::path::{Path, PathBuf};
 use std::process::Command;
 
-use crate::{End, Files, Printed};
+use crate::{CaptureFile, End, Files, Printed};
 
-/// The numbers of answers: those of a run up to 15, then those of a table's text.
-const NUMBERS: [usize; 24] = [
-    0, 1, 2, 3, 4, 5, 6, 7, 8, 9, 10, 11, 12, 13, 14, 15, 40, 41, 42, 43, 44, 45, 46, 47,
+/// The numbers of answers: those of a run up to 15, of a capture, and of a table's text.
+const NUMBERS: [usize; 33] = [
+    0, 1, 2, 3, 4, 5, 6, 7, 8, 9, 10, 11, 12, 13, 14, 15, 30, 31, 32, 33, 34, 35, 36, 37, 38, 40,
+    41, 42, 43, 44, 45, 46, 47,
 ];
 
 /// What is counted as an answer: `NUMBERS`, then `cannot read`, a sheet, and a sheet with a number
@@ -52,7 +53,10 @@ fn answer(output: &[u8]) -> Option<usize> {
 pub enum Program {
     Replay,
     Promise,
+    Capture,
 }
+
+pub const PROGRAMS: [Program; 3] = [Program::Replay, Program::Promise, Program::Capture];
 
 impl Program {
     /// What the proved one is called, and the second one.
@@ -60,6 +64,7 @@ impl Program {
         match self {
             Program::Replay => ["replay", "second"],
             Program::Promise => ["promise", "promise"],
+            Program::Capture => ["capture", "capture"],
         }
     }
 }
@@ -95,19 +100,29 @@ impl Bench {
     }
 
     pub fn run(&self, files: &Files) -> Result<Both> {
-        let [table, events] = self.files();
-        put(&table, &files.table)?;
-        put(&events, &files.events)?;
-        let table = OsString::from(table);
-        match &files.sheet {
-            None => self.over(Program::Replay, &[table, events.into()]),
-            Some(rest) => self.over(Program::Promise, &[&[table], &rest[..]].concat()),
-        }
+        let (program, arguments) = self.lay(files)?;
+        self.over(program, &arguments)
     }
 
-    /// Where a table and a list are put.
-    pub fn files(&self) -> [PathBuf; 2] {
-        ["table.csv", "events.csv"].map(|name| self.folder.join(name))
+    /// Puts the files into the folder. Gives the program that they are for, and its arguments.
+    pub fn lay(&self, files: &Files) -> Result<(Program, Vec<OsString>)> {
+        let laid = |name: &str, bytes: &Option<Vec<u8>>| {
+            let path = self.folder.join(name);
+            put(&path, bytes).map(|()| path.into_os_string())
+        };
+        let table = laid("table.csv", &files.table)?;
+        if let Some(CaptureFile { bytes, numbers }) = &files.capture {
+            let capture = laid("capture.pcap", bytes)?;
+            let arguments = [&[capture, table], &numbers[..]].concat();
+            return Ok((Program::Capture, arguments));
+        }
+        Ok(match &files.sheet {
+            None => {
+                let events = laid("events.csv", &files.events)?;
+                (Program::Replay, vec![table, events])
+            }
+            Some(rest) => (Program::Promise, [&[table], &rest[..]].concat()),
+        })
     }
 
     /// Both programs with these arguments.
@@ -123,10 +138,10 @@ impl Bench {
     }
 }
 
-/// The two folders of programs, if all four programs are there.
+/// The two folders of programs, if all six programs are there.
 pub fn folders(proved: &OsString, second: &OsString) -> Result<[PathBuf; 2]> {
     let folders = [PathBuf::from(proved), PathBuf::from(second)];
-    for program in [Program::Replay, Program::Promise] {
+    for program in PROGRAMS {
         for (folder, name) in folders.iter().zip(program.names()) {
             let path = folder.join(name);
             if !path.is_file() {
@@ -161,11 +176,11 @@ mod tests {
     fn answers_are_recognised() {
         let numbered =
             |line: &str| answer(format!("answer,place,second,count\r\n{line}\r\n").as_bytes());
-        for number in [0, 1, 15, 40, 47] {
+        for number in [0, 1, 15, 30, 38, 40, 47] {
             let name = numbered(&format!("{number},0,0,0")).map(answer_name);
             assert_eq!(name, Some(format!("answer {number}")));
         }
-        for number in ["16", "39", "48", "x", ""] {
+        for number in ["16", "29", "39", "48", "x", ""] {
             assert_eq!(numbered(&format!("{number},0,0,0")), None);
         }
         assert_eq!(answer(b"answer,place,second,count\n0,0,0,3\n"), None);

@@ -11,6 +11,15 @@ pub struct Files {
     pub events: Option<Vec<u8>>,
     /// Where a sheet is asked for and not a run: the arguments after the table.
     pub sheet: Option<Vec<OsString>>,
+    /// Where a capture is replayed and not a list.
+    pub capture: Option<CaptureFile>,
+}
+
+#[derive(Clone, Debug, Default, PartialEq, Eq)]
+pub struct CaptureFile {
+    pub bytes: Option<Vec<u8>>,
+    /// The arguments after the table.
+    pub numbers: Vec<OsString>,
 }
 
 impl Files {
@@ -18,7 +27,7 @@ impl Files {
         Files {
             table: Some(case.table_text().into_bytes()),
             events: Some(case.event_text().into_bytes()),
-            sheet: None,
+            ..Files::default()
         }
     }
 

@@ -1,9 +1,10 @@
-//! Tables and event lists for comparing and timing programs and engines, the same for the same
-//! seed; running programs over them, calling engines, and showing where they differ.
+//! Tables, event lists and captures for comparing and timing programs and engines, the same for
+//! the same seed; running programs over them, calling engines, and showing where they differ.
 #![forbid(unsafe_code)]
 
 mod bench;
 mod buffers;
+pub mod captures;
 mod case;
 mod damage;
 mod ending;
@@ -20,13 +21,13 @@ mod steady;
 mod tables;
 mod times;
 
-pub use bench::{answer_name, folders, Bench, Both, Program, ANSWERS};
+pub use bench::{answer_name, folders, Bench, Both, Program, ANSWERS, PROGRAMS};
 pub use buffers::{call, Buffers, Engine, ANSWER_BYTES, SLICES, WORD_BYTES};
 pub use case::{Case, Event, Row, FINISH};
 pub use damage::{damage, damage_twice, NUMBERS};
 pub use ending::counted;
 pub use events::{random_events, sending, EDGES};
-pub use files::{lines, Files};
+pub use files::{lines, CaptureFile, Files};
 pub use folder::Folder;
 pub use printed::{End, Printed};
 pub use random::Random;

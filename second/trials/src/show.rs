@@ -2,6 +2,7 @@
 
 use std::io::Result;
 
+use crate::captures::parts;
 use crate::shrink::shrink;
 use crate::{lines, Bench, Both, End, Files, Printed};
 
@@ -10,6 +11,9 @@ const MOST_LINES: usize = 60;
 
 /// Lines that are shown before the first that differs, where not all are shown.
 const LINES_BEFORE: usize = 10;
+
+/// Bytes of a record that are shown at most.
+const MOST_OF_RECORD: usize = 64;
 
 /// What is left of files on which the programs differ when they are cut down.
 pub fn difference(bench: &Bench, files: &Files) -> Result<String> {
@@ -22,13 +26,24 @@ fn text(files: &Files, both: &Both) -> String {
     let [proved, second] = &both.0;
     let outputs = lines(&proved.output).into_iter().zip(lines(&second.output));
     let alike = outputs.take_while(|(one, other)| one == other).count();
-    let rest = match &files.sheet {
-        None => file("the list", &files.events),
-        Some(arguments) => format!("--- arguments after the table: {arguments:?}\n"),
+    let arguments = match &files.capture {
+        Some(capture) => Some(&capture.numbers),
+        None => files.sheet.as_ref(),
+    };
+    let list = match (&files.capture, &files.sheet) {
+        (Some(capture), _) => {
+            let digits = capture.bytes.as_deref().map(in_digits);
+            file("the capture, in hexadecimal digits", &digits)
+        }
+        (None, None) => file("the list", &files.events),
+        (None, Some(_)) => String::new(),
     };
     [
         file("the table", &files.table),
-        rest,
+        list,
+        arguments.map_or(String::new(), |arguments| {
+            format!("--- arguments after the table: {arguments:?}\n")
+        }),
         printed("the proved program", proved, alike),
         printed("the second program", second, alike),
     ]
@@ -40,6 +55,17 @@ fn file(name: &str, bytes: &Option<Vec<u8>>) -> String {
         Some(bytes) => format!("--- {name}\n{}", shown(bytes, 0)),
         None => format!("--- {name} is a file that is not there\n"),
     }
+}
+
+/// A line for a capture's header, for each record, and for what is no whole one.
+fn in_digits(bytes: &[u8]) -> Vec<u8> {
+    let line = |part: Vec<u8>| {
+        let shown = part.iter().take(MOST_OF_RECORD);
+        let digits: String = shown.map(|byte| format!("{byte:02x}")).collect();
+        format!("{digits} ({} bytes)\n", part.len())
+    };
+    let lines = parts(bytes).into_iter().map(line);
+    lines.collect::<String>().into_bytes()
 }
 
 fn printed(name: &str, printed: &Printed, alike: usize) -> String {
@@ -80,10 +106,22 @@ fn shown(bytes: &[u8], alike: usize) -> String {
 #[cfg(test)]
 mod tests {
     use super::*;
+    use crate::captures::{Capture, LAYOUTS};
 
     #[test]
     fn odd_bytes_and_missing_ends_are_seen() {
         assert_eq!(shown(b"1,2\r\n\xff", 0), "1,2\\r\n\\xff (no line end)\n");
+    }
+
+    #[test]
+    fn a_capture_is_shown_record_by_record() {
+        let record = LAYOUTS[2].record(1, 100, 46);
+        let capture = Capture::new(LAYOUTS[2], vec![record.clone(), record]);
+        let shown = in_digits(&capture.bytes()[..70]);
+        let text = String::from_utf8(shown).expect("it is text");
+        let ends: Vec<&str> = text.lines().map(|line| &line[line.len() - 10..]).collect();
+        assert_eq!(ends, ["(24 bytes)", "(36 bytes)", "(10 bytes)"]);
+        assert!(text.starts_with("a1b2c3d400020004"));
     }
 
     #[test]

@@ -1,8 +1,8 @@
-//! Cuts a list down as long as the two programs still differ on it.
+//! Cuts a list or a capture down as long as the two programs still differ on it.
 
-use std::ffi::OsString;
 use std::time::{Duration, Instant};
 
+use crate::captures::parts;
 use crate::{lines, Files};
 
 /// How long each step may take; after one that takes longer the rest of the round is the last.
@@ -12,10 +12,10 @@ type Lines = Vec<Vec<u8>>;
 
 struct Shrinker<'a> {
     table: Lines,
+    /// Of a capture its header and its records.
     events: Lines,
-    /// Which of the two files are there at all.
-    there: [bool; 2],
-    sheet: Option<Vec<OsString>>,
+    /// What was there at first, and the arguments.
+    given: &'a Files,
     differs: &'a mut dyn FnMut(&Files) -> bool,
     /// When the step began.
     begun: Instant,
@@ -29,14 +29,16 @@ enum Step {
     Late,
 }
 
-/// Drops events, then rows, then shortens lengths, until nothing more can go.
+/// Drops events or records, then rows, then shortens lengths, until nothing more can go.
 pub fn shrink(files: &Files, differs: &mut dyn FnMut(&Files) -> bool) -> Files {
     let of = |bytes: &Option<Vec<u8>>| lines(bytes.as_deref().unwrap_or_default());
     let mut shrinker = Shrinker {
         table: of(&files.table),
-        events: of(&files.events),
-        there: [files.table.is_some(), files.events.is_some()],
-        sheet: files.sheet.clone(),
+        events: match &files.capture {
+            Some(capture) => parts(capture.bytes.as_deref().unwrap_or_default()),
+            None => of(&files.events),
+        },
+        given: files,
         differs,
         begun: Instant::now(),
     };
@@ -57,12 +59,18 @@ pub fn shrink(files: &Files, differs: &mut dyn FnMut(&Files) -> bool) -> Files {
 
 impl Shrinker<'_> {
     fn files(&self, table: &Lines, events: &Lines) -> Files {
-        let [table_there, events_there] = self.there;
-        Files {
-            table: table_there.then(|| table.concat()),
-            events: events_there.then(|| events.concat()),
-            sheet: self.sheet.clone(),
+        let mut files = self.given.clone();
+        let list = match &mut files.capture {
+            Some(capture) => &mut capture.bytes,
+            None => &mut files.events,
+        };
+        for (file, lines) in [(&mut files.table, table), (list, events)] {
+            // A file that is not there stays so.
+            if let Some(bytes) = file {
+                *bytes = lines.concat();
+            }
         }
+        files
     }
 
     /// Keeps these lines if the programs still differ on them.
@@ -241,7 +249,8 @@ fn without_idle_finishes(events: &Lines) -> Lines {
 #[cfg(test)]
 mod tests {
     use super::*;
-    use crate::{random_events, random_table, Case, Event, Random, Shape, FINISH};
+    use crate::captures::{Capture, CaptureCase, LAYOUTS};
+    use crate::{even_table, random_events, random_table, Case, Event, Random, Shape, FINISH};
 
     fn list() -> Files {
         let mut random = Random::new(5, 0);
@@ -326,6 +335,29 @@ mod tests {
         assert_eq!(text(&cr.events), "class,length\r\n");
         let lf = shrink(&files, &mut |files| !text(&files.table).contains('\r'));
         assert_eq!(text(&lf.table), "identifier,parent,share\n");
+    }
+
+    #[test]
+    fn records_are_dropped_as_events_are() {
+        let record = |stamp| LAYOUTS[3].record(stamp, 100, 46);
+        let case = CaptureCase {
+            capture: Capture::new(LAYOUTS[3], (0..300).map(record).collect()),
+            rows: even_table(&[3]),
+            classes: [2, 3, 4],
+            rate: 1,
+        };
+        let mut files = case.files();
+        let needed = parts(&case.capture.bytes())[200].clone();
+        let has_it = |files: &Files| {
+            let capture = files.capture.as_ref().expect("there is a capture");
+            parts(capture.bytes.as_deref().unwrap_or_default()).contains(&needed)
+        };
+        let small = shrink(&files, &mut |files| has_it(files));
+        assert_eq!(text(&small.table), "identifier,parent,share\r\n");
+        let alone = Capture::new(LAYOUTS[3], vec![record(199)]);
+        let capture = files.capture.as_mut().expect("there is a capture");
+        capture.bytes = Some(alone.bytes());
+        assert_eq!(small.capture, files.capture);
     }
 
     #[test]

@@ -59,6 +59,11 @@ pub fn promise<A: AsRef<OsStr>>(arguments: &[A]) -> Printed {
     run(env!("CARGO_BIN_EXE_promise"), arguments)
 }
 
+/// Runs `capture` with these arguments.
+pub fn capture<A: AsRef<OsStr>>(arguments: &[A]) -> Printed {
+    run(env!("CARGO_BIN_EXE_capture"), arguments)
+}
+
 /// What a program prints; it must end with status 0.
 fn run<A: AsRef<OsStr>>(program: &str, arguments: &[A]) -> Printed {
     let done = Command::new(program)

@@ -41,7 +41,7 @@ fn replaced(place: usize, count: usize, by: &[u8]) -> Trial {
         files: Files {
             table: Some(table),
             events: Some(EVENTS.to_vec()),
-            sheet: None,
+            ..Files::default()
         },
         case: None,
     }

@@ -1,11 +1,15 @@
 //! The program `compare PROVED SECOND [SEED [LISTS]]`: two folders' programs over the same files.
 #![forbid(unsafe_code)]
 
+mod answers;
 mod bytes;
+mod captured;
+mod captures;
 mod charged;
 mod edges;
 mod faults;
 mod identifiers;
+mod octets;
 mod plan;
 mod sheets;
 mod tally;
@@ -19,6 +23,8 @@ use std::sync::atomic::{AtomicUsize, Ordering};
 use std::thread;
 
 use bytes::{damaged_table, TEXTS};
+use captures::{capture_trial, AT_LIMIT};
+use octets::{damaged_capture, OCTETS};
 use plan::{trial, Trial, ROUND_LISTS};
 use tally::Tally;
 use trials::{counted, difference, folders, Bench, Folder};
@@ -26,13 +32,48 @@ use trials::{counted, difference, folders, Bench, Folder};
 const DEFAULT_SEED: u64 = 840;
 const DEFAULT_LISTS: usize = 60 * ROUND_LISTS;
 
+/// For so many lists there is a capture.
+const LISTS_A_CAPTURE: usize = 5;
+
 struct Settings {
     programs: [PathBuf; 2],
     seed: u64,
     /// Besides the one of full size.
     lists: usize,
+    /// Besides the two at the limit of records.
+    captures: usize,
     /// Those of one table, damaged byte by byte.
     texts: usize,
+    /// Captures of two packets, damaged byte by byte.
+    octets: usize,
+}
+
+/// One of the trials, by its number among those of its part.
+enum Part {
+    /// The last one has full size.
+    List(usize),
+    Capture(usize),
+    Text(usize),
+    Octets(usize),
+}
+
+impl Settings {
+    /// How many trials each part has.
+    fn parts(&self) -> [usize; 4] {
+        let captures = self.captures + AT_LIMIT;
+        [self.lists + 1, captures, self.texts, self.octets]
+    }
+
+    fn part(&self, mut number: usize) -> Part {
+        let parts = [Part::List, Part::Capture, Part::Text];
+        for (part, count) in parts.into_iter().zip(self.parts()) {
+            if number < count {
+                return part(number);
+            }
+            number -= count;
+        }
+        Part::Octets(number)
+    }
 }
 
 fn main() -> ExitCode {
@@ -50,8 +91,10 @@ fn settings(arguments: &[OsString]) -> Result<Settings> {
             programs: folders(proved, second)?,
             seed,
             lists,
+            captures: lists / LISTS_A_CAPTURE,
             // Under other seeds they would be the same again.
             texts: if seed == DEFAULT_SEED { TEXTS } else { 0 },
+            octets: if seed == DEFAULT_SEED { OCTETS } else { 0 },
         }),
         _ => Err(Error::other(
             "give the folders of the programs, then a seed and a number of lists if you like: \
@@ -60,20 +103,23 @@ fn settings(arguments: &[OsString]) -> Result<Settings> {
     }
 }
 
-/// The trial with this number: of the lists, the last of which has full size, then of the texts.
 fn numbered(settings: &Settings, number: usize) -> Trial {
-    match number.checked_sub(settings.lists + 1) {
-        None => trial(settings.seed, number, settings.lists),
-        Some(text) => damaged_table(text),
+    match settings.part(number) {
+        Part::List(list) => trial(settings.seed, list, settings.lists),
+        Part::Capture(capture) => capture_trial(settings.seed, capture, settings.captures),
+        Part::Text(text) => damaged_table(text),
+        Part::Octets(capture) => damaged_capture(capture),
     }
 }
 
 /// Compares all lists and prints what came of them; true if nothing failed.
 fn compare(settings: &Settings) -> Result<bool> {
     let folder = Folder::fresh("compare")?;
-    let lists = settings.lists + 1;
-    let texts = settings.texts;
-    println!("seed {}, {lists} lists, {texts} texts", settings.seed);
+    let [lists, captures, texts, octets] = settings.parts();
+    println!(
+        "seed {}, {lists} lists, {captures} captures, {texts} texts, {octets} damaged captures",
+        settings.seed
+    );
     let mut tally = all_lists(settings, folder.path())?;
     tally.differing.sort_unstable();
     print!("{}", tally.text());
@@ -111,7 +157,7 @@ fn all_lists(settings: &Settings, folder: &Path) -> Result<Tally> {
     })
 }
 
-/// Takes one list after another until none is left, the one of full size first; then the texts.
+/// Takes one list after another until none is left, the one of full size first; then the rest.
 fn some_lists(
     settings: &Settings,
     folder: &Path,
@@ -122,15 +168,17 @@ fn some_lists(
     let mut tally = Tally::default();
     loop {
         let taken = next.fetch_add(1, Ordering::Relaxed);
-        if taken > settings.lists + settings.texts {
+        if taken >= settings.parts().into_iter().sum() {
             return Ok(tally);
         }
         let number = settings.lists.checked_sub(taken).unwrap_or(taken);
         let trial = numbered(settings, number);
-        let agreed = bench.run(&trial.files)?.agreed();
-        match number > settings.lists {
-            true => tally.add_text(number, agreed),
-            false => tally.add(number, agreed),
+        let both = bench.run(&trial.files)?;
+        match settings.part(number) {
+            Part::List(_) => tally.add(number, both.agreed()),
+            Part::Capture(_) => tally.add_capture(number, &trial.files, &both),
+            Part::Text(_) => tally.add_text(number, both.agreed()),
+            Part::Octets(_) => tally.add_octets(number, both.agreed()),
         }
         if let Some(case) = &trial.case {
             tally.look_inside(case);
@@ -143,7 +191,7 @@ fn show_difference(settings: &Settings, folder: &Path, number: usize) -> Result<
     let bench = Bench::new(&settings.programs, folder)?;
     let found = numbered(settings, number);
     println!(
-        "compare: list {number} ({}) comes out differently",
+        "compare: trial {number} ({}) comes out differently",
         found.name
     );
     print!("{}", difference(&bench, &found.files)?);

@@ -104,7 +104,7 @@ fn packets(random: &mut Random) -> OsString {
 }
 
 /// Now and then with leading zeros.
-fn zeroed(number: String, random: &mut Random) -> OsString {
+pub fn zeroed(number: String, random: &mut Random) -> OsString {
     let zeros = match random.one_in(8) {
         true => random.between(1, 30),
         false => 0,
@@ -112,12 +112,16 @@ fn zeroed(number: String, random: &mut Random) -> OsString {
     OsString::from("0".repeat(zeros) + &number)
 }
 
-fn unread_arguments(random: &mut Random) -> Vec<OsString> {
+/// An argument that is no number, or too large a one.
+pub fn unread(random: &mut Random) -> OsString {
     // No argument holds a byte 0.
     let unread: Vec<&[u8]> = NOT_DIGITS.into_iter().chain(TOO_LARGE).collect();
     let unread: Vec<&[u8]> = unread.into_iter().filter(|a| !a.contains(&0)).collect();
-    let mut wrong = || OsStr::from_bytes(random.pick(&unread)).to_os_string();
-    let [wrong, other, third] = [wrong(), wrong(), wrong()];
+    OsStr::from_bytes(random.pick(&unread)).to_os_string()
+}
+
+fn unread_arguments(random: &mut Random) -> Vec<OsString> {
+    let [wrong, other, third] = [(); 3].map(|()| unread(random));
     let one_more = (MOST_BYTES + 1).to_string();
     // In 16 bits 65,537 would be 1.
     let range = random.pick(&["0", &one_more, &one_more, "65537", "4294967295"]);

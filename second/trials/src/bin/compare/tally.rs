@@ -1,13 +1,27 @@
 //! Counts what came of the lists.
 
+use crate::answers::Answers;
+use crate::captured::Captured;
 use crate::charged::Charged;
 use crate::edges::Edges;
 use crate::identifiers::Identifiers;
 use second::Choices;
-use trials::{answer_name, Case, ANSWERS};
+use trials::{Both, Case, Files};
 
-/// No text brings about answer 3: the programs lend slices that are long enough.
-const NEVER: usize = 3;
+/// No list brings about answer 3, since the programs lend slices that are long enough, nor those of
+/// captures.
+const NEVER: [&str; 10] = [
+    "answer 3",
+    "answer 30",
+    "answer 31",
+    "answer 32",
+    "answer 33",
+    "answer 34",
+    "answer 35",
+    "answer 36",
+    "answer 37",
+    "answer 38",
+];
 
 /// How often each other answer is wanted among the lists of a default run.
 const WANTED: u64 = 36;
@@ -19,23 +33,34 @@ const WANTED_NOT_LOWEST: u64 = 4000;
 
 #[derive(Default)]
 pub struct Tally {
-    counts: [u64; ANSWERS],
+    /// Those of lists and sheets.
+    answers: Answers,
     /// Those of the runs that are accepted.
     choices: Choices,
     edges: Edges,
     identifiers: Identifiers,
     charged: Charged,
-    /// Texts of one table, damaged byte by byte, on which the programs agree.
+    captured: Captured,
+    /// Texts of one table and captures of two packets, damaged byte by byte, on which the programs
+    /// agree.
     texts: u64,
-    /// The lists and texts on which they differ.
+    octets: u64,
+    /// The trials on which they differ.
     pub differing: Vec<usize>,
 }
 
 impl Tally {
     pub fn add(&mut self, list: usize, agreed: Option<usize>) {
         match agreed {
-            Some(answer) => self.counts[answer] += 1,
+            Some(answer) => self.answers.add(answer),
             None => self.differing.push(list),
+        }
+    }
+
+    pub fn add_capture(&mut self, capture: usize, files: &Files, both: &Both) {
+        match both.agreed() {
+            Some(answer) => self.captured.add(answer, files, &both.0[0].output),
+            None => self.differing.push(capture),
         }
     }
 
@@ -44,6 +69,14 @@ impl Tally {
         match agreed {
             Some(_) => self.texts += 1,
             None => self.differing.push(text),
+        }
+    }
+
+    /// So are these.
+    pub fn add_octets(&mut self, capture: usize, agreed: Option<usize>) {
+        match agreed {
+            Some(_) => self.octets += 1,
+            None => self.differing.push(capture),
         }
     }
 
@@ -64,10 +97,10 @@ impl Tally {
     }
 
     pub fn join(&mut self, other: Tally) {
-        for (count, more) in self.counts.iter_mut().zip(other.counts) {
-            *count += more;
-        }
+        self.answers += other.answers;
+        self.captured += other.captured;
         self.texts += other.texts;
+        self.octets += other.octets;
         self.choices += other.choices;
         self.edges += other.edges;
         self.identifiers += other.identifiers;
@@ -76,39 +109,35 @@ impl Tally {
     }
 
     pub fn passed(&self) -> u64 {
-        self.counts.iter().sum::<u64>() + self.texts
+        self.answers.sum() + self.captured.sum() + self.texts + self.octets
     }
 
-    /// A line for each answer, and one each for choices, lengths, identifiers, shares and texts.
+    /// A line for each answer of a list, one each for choices, lengths, identifiers and shares, those
+    /// of captures, and one each for texts and captures damaged byte by byte.
     pub fn text(&self) -> String {
-        let line = |(answer, count): (usize, &u64)| format!("{}: {count}\n", answer_name(answer));
-        let answers: String = self.counts.iter().enumerate().map(line).collect();
+        let answers = self.answers.texts(&NEVER).join("\n");
         let Choices {
             made,
             by_place,
             not_lowest,
         } = self.choices;
         format!(
-            "{answers}choices: {made}, decided by the place: {by_place}, \
-             of these not the lowest row: {not_lowest}\n{}{}{}\
-             texts of one table, damaged byte by byte: {}\n",
+            "{answers}\nchoices: {made}, decided by the place: {by_place}, \
+             of these not the lowest row: {not_lowest}\n{}{}{}{}\
+             texts of one table, damaged byte by byte: {}\n\
+             captures of two packets, damaged byte by byte: {}\n",
             self.edges.text(),
             self.identifiers.text(),
             self.charged.text(),
-            self.texts
+            self.captured.text(),
+            self.texts,
+            self.octets
         )
     }
 
     /// Sentences on what came up too seldom, or must not come up.
     pub fn shortages(&self) -> Vec<String> {
-        let said = |(answer, count): (usize, &u64)| {
-            let name = answer_name(answer);
-            match answer {
-                NEVER => (*count > 0).then(|| format!("{name} must never come up")),
-                _ => too_few(&name, *count, WANTED),
-            }
-        };
-        let answers = self.counts.iter().enumerate().filter_map(said);
+        let answers = self.answers.shortages(&NEVER, WANTED).into_iter();
         let Choices {
             by_place,
             not_lowest,
@@ -128,6 +157,7 @@ impl Tally {
             .chain(self.edges.shortages())
             .chain(self.identifiers.shortages())
             .chain(self.charged.shortages())
+            .chain(self.captured.shortages())
             .collect()
     }
 }
@@ -140,29 +170,25 @@ pub fn too_few(name: &str, count: u64, wanted: u64) -> Option<String> {
 #[cfg(test)]
 mod tests {
     use second::MOST_BYTES;
-    use trials::{even_table, Event};
+    use trials::{even_table, End, Event, Printed};
 
     use super::*;
 
     #[test]
     fn what_comes_up_too_seldom_is_named() {
         let mut tally = Tally::default();
-        for answer in (0..ANSWERS).filter(|answer| *answer != NEVER) {
-            tally.counts[answer] = WANTED;
-        }
         let others = [
+            tally.answers.shortages(&NEVER, WANTED),
             tally.edges.shortages(),
             tally.identifiers.shortages(),
             tally.charged.shortages(),
+            tally.captured.shortages(),
         ]
         .concat();
         assert_eq!(tally.shortages().len(), 2 + others.len());
         tally.choices.by_place = WANTED_BY_PLACE;
         tally.choices.not_lowest = WANTED_NOT_LOWEST;
         assert_eq!(tally.shortages(), others);
-        tally.counts[9] -= 1;
-        tally.counts[NEVER] += 1;
-        assert_eq!(tally.shortages().len(), 2 + others.len());
     }
 
     #[test]
@@ -179,16 +205,30 @@ mod tests {
         other.add(2, None);
         other.add_text(7, None);
         other.add_text(8, Some(41));
+        other.add_octets(9, Some(30));
+        let said = "answer,place,second,count\r\n30,0,0,0\r\n";
+        other.add_capture(10, &Files::default(), &both([said, said]));
+        other.add_capture(11, &Files::default(), &both([said, ""]));
         other.look_inside(&packet(1));
         other.look_inside(&packet(MOST_BYTES + 1));
         tally.join(other);
-        assert_eq!(tally.passed(), 2);
-        assert_eq!(tally.differing, [4, 2, 7]);
+        assert_eq!(tally.passed(), 4);
+        assert_eq!(tally.differing, [4, 2, 7, 11]);
         let text = tally.text();
         assert!(text.contains("choices: 2, "));
         assert!(text.contains("packets: 2, of length 1: 1, "));
         assert!(text.contains("refused for length 9001: 1\n"));
         assert!(text.contains("a class with a row's low bits: 0\nshares charged: 1 of 840\n"));
-        assert!(text.ends_with("texts of one table, damaged byte by byte: 1\n"));
+        assert!(text.contains(", answer 15: 0, answer 30: 1, answer 31: 0, "));
+        assert!(text.contains("texts of one table, damaged byte by byte: 1\n"));
+        assert!(text.ends_with("captures of two packets, damaged byte by byte: 1\n"));
+    }
+
+    fn both(outputs: [&str; 2]) -> Both {
+        Both(outputs.map(|output| Printed {
+            output: output.as_bytes().to_vec(),
+            error: Vec::new(),
+            end: End::Status(0),
+        }))
     }
 }

@@ -1,5 +1,6 @@
 //! Damages bytes at random.
 
+use trials::captures::{parts, Layout, FILE_HEADER, LAYOUTS, RECORD_HEADER};
 use trials::{lines, Random};
 
 /// Bytes that such files are made of, and some that they are not.
@@ -30,6 +31,22 @@ const NUMBERS: [&str; 21] = [
     "99999999999999999999999999999999999999999",
 ];
 
+/// What a word of a capture may be given as.
+const WORDS: [u32; 12] = [
+    0,
+    1,
+    19,
+    20,
+    101,
+    9000,
+    9001,
+    999_999,
+    1_000_000,
+    999_999_999,
+    1 << 31,
+    u32::MAX,
+];
+
 /// Bytes that one damage puts in, takes out or repeats at most.
 const STRETCH: usize = 12;
 
@@ -42,7 +59,7 @@ const LONG: usize = 100_000;
 pub fn damage(bytes: &mut Vec<u8>, other: &[u8], gentle: bool, random: &mut Random) {
     match random.below(if gentle { 5 } else { 13 }) {
         0 | 1 => number(bytes, gentle, random),
-        2..=4 => whole_lines(bytes, gentle, random),
+        2..=4 => whole_parts(bytes, lines, gentle, random),
         5 => flip(bytes, random),
         6 | 7 => change(bytes, random),
         8 => insert(bytes, random),
@@ -52,6 +69,44 @@ pub fn damage(bytes: &mut Vec<u8>, other: &[u8], gentle: bool, random: &mut Rand
         _ if random.one_in(2) => bytes.truncate(random.below(bytes.len() + 1)),
         _ => splice(bytes, other, random),
     }
+}
+
+/// Damages a capture once.
+pub fn damage_capture(bytes: &mut Vec<u8>, other: &[u8], gentle: bool, random: &mut Random) {
+    match random.below(if gentle { 6 } else { 11 }) {
+        0..=3 => word(bytes, random),
+        4 | 5 => whole_parts(bytes, parts, true, random),
+        6 => flip(bytes, random),
+        7 => insert(bytes, random),
+        8 => drop(bytes.drain(stretch(bytes, random))),
+        9 => bytes.truncate(random.below(bytes.len() + 1)),
+        _ => splice(bytes, other, random),
+    }
+}
+
+/// Puts another word in the place of one of some header.
+fn word(bytes: &mut [u8], random: &mut Random) {
+    let layout = Layout::of(bytes).unwrap_or(LAYOUTS[0]);
+    let all = parts(bytes);
+    let part = random.below(all.len().max(1));
+    let words = if part == 0 {
+        FILE_HEADER
+    } else {
+        RECORD_HEADER
+    } / 4;
+    let before: usize = all.iter().take(part).map(Vec::len).sum();
+    let place = before + 4 * random.below(words);
+    let Some(old) = bytes.get_mut(place..place + 4) else {
+        return;
+    };
+    let new = match random.below(4) {
+        0 => layout.word(random.pick(&WORDS)),
+        1 => layout.word(random.word() >> random.below(32)),
+        2 => layout.word(random.below(2000) as u32),
+        // Beside what it was, in either byte order.
+        _ => [old[0] ^ 1, old[1], old[2], old[3] ^ 1],
+    };
+    old.copy_from_slice(&new);
 }
 
 /// A short stretch of these bytes, perhaps empty.
@@ -137,9 +192,15 @@ fn number(bytes: &mut Vec<u8>, gentle: bool, random: &mut Random) {
     bytes.splice(start..end, new);
 }
 
-/// Takes a line out, repeats it, or puts it elsewhere; not the heading where it is gentle.
-fn whole_lines(bytes: &mut Vec<u8>, gentle: bool, random: &mut Random) {
-    let mut all = lines(bytes);
+/// Takes a line or a record out, repeats it, or puts it elsewhere; not the heading where it is
+/// gentle.
+fn whole_parts(
+    bytes: &mut Vec<u8>,
+    split: fn(&[u8]) -> Vec<Vec<u8>>,
+    gentle: bool,
+    random: &mut Random,
+) {
+    let mut all = split(bytes);
     let first = usize::from(gentle);
     if all.len() <= first {
         return;
@@ -161,6 +222,7 @@ fn whole_lines(bytes: &mut Vec<u8>, gentle: bool, random: &mut Random) {
 #[cfg(test)]
 mod tests {
     use super::*;
+    use trials::captures::Capture;
 
     #[test]
     fn any_bytes_can_be_damaged_and_most_are_changed() {
@@ -174,6 +236,23 @@ mod tests {
             changed += usize::from(bytes != before);
         }
         assert!(changed > 1500);
+    }
+
+    #[test]
+    fn any_capture_can_be_damaged_and_most_are_changed() {
+        let records = [0, 5]
+            .map(|stamp| LAYOUTS[3].record(stamp, 100, 46))
+            .to_vec();
+        let capture = Capture::new(LAYOUTS[3], records).bytes();
+        let mut changed = 0;
+        for number in 0..4000 {
+            let mut random = Random::new(1, number);
+            let before = &capture[..random.pick(&[0, 3, 30, 50, capture.len()])];
+            let mut bytes = before.to_vec();
+            damage_capture(&mut bytes, &capture, random.one_in(2), &mut random);
+            changed += usize::from(bytes != before);
+        }
+        assert!(changed > 1500, "{changed}");
     }
 
     #[test]

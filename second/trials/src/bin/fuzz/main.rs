@@ -12,8 +12,10 @@ use std::path::{Path, PathBuf};
 use std::process::ExitCode;
 use std::time::{Duration, Instant};
 
-use damage::damage;
-use trials::{answer_name, counted, difference, folders, Bench, Files, Folder, Random, ANSWERS};
+use damage::{damage, damage_capture};
+use trials::{
+    answer_name, counted, difference, folders, Bench, CaptureFile, Files, Folder, Random, ANSWERS,
+};
 
 const DEFAULT_SEED: u64 = 1;
 
@@ -73,7 +75,7 @@ fn fuzz(settings: &Settings) -> Result<bool> {
         if begun.elapsed() > settings.time {
             break;
         }
-        let files = damaged(&examples, &mut Random::new(settings.seed, number));
+        let files = damaged_files(&examples, &mut Random::new(settings.seed, number));
         match bench.run(&files)?.agreed() {
             Some(answer) => counts[answer] += 1,
             None => {
@@ -101,6 +103,28 @@ fn text(counts: &[usize; ANSWERS]) -> String {
 struct Example {
     table: Vec<u8>,
     events: Vec<u8>,
+    capture: Option<Vec<u8>>,
+    /// Those after the table.
+    arguments: Vec<Vec<u8>>,
+}
+
+impl Example {
+    /// What is in this folder, if there is a table.
+    fn read(folder: &Path) -> Option<Example> {
+        let file = |name: &str| fs::read(folder.join(name));
+        let arguments = file("arguments").unwrap_or_default();
+        let arguments = arguments.split(u8::is_ascii_whitespace);
+        Some(Example {
+            table: file("table.csv").ok()?,
+            // A sheet and a capture have no events.
+            events: file("events.csv").unwrap_or_default(),
+            capture: file("capture.pcap").ok(),
+            arguments: arguments
+                .filter(|a| !a.is_empty())
+                .map(<[u8]>::to_vec)
+                .collect(),
+        })
+    }
 }
 
 /// The examples below this folder, in a fixed order.
@@ -112,11 +136,7 @@ fn examples(folder: &Path) -> Result<Vec<Example>> {
         let mut paths: Vec<PathBuf> = entries?.iter().map(|entry| entry.path()).collect();
         paths.sort();
         folders.extend(paths.into_iter().filter(|path| path.is_dir()));
-        if let Ok(table) = fs::read(folder.join("table.csv")) {
-            // A sheet has no events.
-            let events = fs::read(folder.join("events.csv")).unwrap_or_default();
-            found.push(Example { table, events });
-        }
+        found.extend(Example::read(&folder));
     }
     match found.is_empty() {
         true => Err(Error::other(format!("no examples in {}", folder.display()))),
@@ -124,9 +144,43 @@ fn examples(folder: &Path) -> Result<Vec<Example>> {
     }
 }
 
-/// A table with its list or with arguments, damaged once or several times.
-fn damaged(examples: &[Example], random: &mut Random) -> Files {
+/// One example with its capture or without, damaged once or several times.
+fn damaged_files(examples: &[Example], random: &mut Random) -> Files {
     let [own, other] = [(); 2].map(|()| &examples[random.below(examples.len())]);
+    match &own.capture {
+        Some(capture) => damaged_capture(own, capture, other, random),
+        None => damaged(own, other, random),
+    }
+}
+
+/// A capture with its table and arguments.
+fn damaged_capture(own: &Example, capture: &[u8], other: &Example, random: &mut Random) -> Files {
+    let (mut bytes, mut table) = (capture.to_vec(), own.table.clone());
+    let mut arguments = own.arguments.clone();
+    let gentle = random.one_in(2);
+    for _ in 0..random.pick(&[1, 1, 1, 2, 3, 8]) {
+        let place = random.below(arguments.len().max(1));
+        match (random.below(6), arguments.get_mut(place)) {
+            (0, Some(argument)) => damage(argument, SHEETS[2][1], gentle, random),
+            (1, _) => damage(&mut table, &other.table, gentle, random),
+            _ => {
+                let spliced = other.capture.as_deref().unwrap_or(&other.events);
+                damage_capture(&mut bytes, spliced, gentle, random);
+            }
+        }
+    }
+    Files {
+        table: Some(table),
+        capture: Some(CaptureFile {
+            bytes: Some(bytes),
+            numbers: passed(arguments),
+        }),
+        ..Files::default()
+    }
+}
+
+/// A table with its list or as a sheet.
+fn damaged(own: &Example, other: &Example, random: &mut Random) -> Files {
     let (mut table, mut events) = (own.table.clone(), own.events.clone());
     let mut sheet: Vec<Vec<u8>> = random.pick(&SHEETS).iter().map(|a| a.to_vec()).collect();
     let [is_sheet, gentle] = [random.one_in(3), random.one_in(2)];
@@ -140,30 +194,42 @@ fn damaged(examples: &[Example], random: &mut Random) -> Files {
             }
         }
     }
-    for argument in &mut sheet {
-        // No argument holds a byte 0, nor more bytes than a system takes.
-        argument.retain(|byte| *byte != 0);
-        argument.truncate(MOST_ARGUMENT);
-    }
     Files {
         table: Some(table),
         events: (!is_sheet).then_some(events),
-        sheet: is_sheet.then(|| sheet.into_iter().map(OsString::from_vec).collect()),
+        sheet: is_sheet.then(|| passed(sheet)),
+        capture: None,
     }
+}
+
+/// What can be passed of these arguments: no byte 0, nor more bytes than a system takes.
+fn passed(arguments: Vec<Vec<u8>>) -> Vec<OsString> {
+    let can_be = |mut argument: Vec<u8>| {
+        argument.retain(|byte| *byte != 0);
+        argument.truncate(MOST_ARGUMENT);
+        OsString::from_vec(argument)
+    };
+    arguments.into_iter().map(can_be).collect()
 }
 
 /// Keeps the files of a difference where temporary files are, and says where.
 fn keep(seed: u64, number: u64, files: &Files) -> Result<()> {
     let folder = env::temp_dir().join(format!("fuzz-kept-{seed}-{number}"));
     fs::create_dir_all(&folder)?;
-    let arguments = files.sheet.as_ref().map(|sheet| {
-        let lines = sheet.iter().map(|a| [a.as_bytes(), b"\n"].concat());
+    let capture = files.capture.as_ref();
+    let numbers = capture.map(|capture| &capture.numbers);
+    let arguments = files.sheet.as_ref().or(numbers).map(|arguments| {
+        let lines = arguments.iter().map(|a| [a.as_bytes(), b"\n"].concat());
         lines.collect::<Vec<_>>().concat()
     });
     let kept = [
-        ("table.csv", &files.table),
-        ("events.csv", &files.events),
-        ("arguments", &arguments),
+        ("table.csv", files.table.as_ref()),
+        ("events.csv", files.events.as_ref()),
+        (
+            "capture.pcap",
+            capture.and_then(|capture| capture.bytes.as_ref()),
+        ),
+        ("arguments", arguments.as_ref()),
     ];
     for (name, bytes) in kept {
         if let Some(bytes) = bytes {

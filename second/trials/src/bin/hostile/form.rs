@@ -2,10 +2,11 @@
 
 use trials::Printed;
 
-const ANSWER: &str = "answer,place,second,count";
+pub const ANSWER: &str = "answer,place,second,count";
 const ROWS: &str = "identifier,bytes,start,finish,virtual,held,lag";
+pub const PACKETS: &str = "packet,record,class,length,arrived,sent,finished";
 
-/// One sentence, a refusal, the results of a run, or a sheet.
+/// One sentence, a refusal, the results of a run or of a capture, or a sheet.
 pub fn is_whole(printed: &Printed) -> bool {
     // The name of a file is printed as it was given, so only a sentence may be other bytes.
     let output = String::from_utf8_lossy(&printed.output);
@@ -20,6 +21,7 @@ pub fn is_whole(printed: &Printed) -> bool {
     match lines[..] {
         [ANSWER, answer] => is_refusal(answer, &error),
         [ANSWER, answer, "order", ref rest @ ..] => error.is_empty() && are_results(answer, rest),
+        [ANSWER, answer, PACKETS, ref rest @ ..] => error.is_empty() && are_packets(answer, rest),
         _ => false,
     }
 }
@@ -40,9 +42,17 @@ fn is_refusal(answer: &str, error: &str) -> bool {
     are_numbers(answer, 4) && number != "0" && said && error.ends_with(".\n") && is_line(error)
 }
 
+/// How many packets went on the line.
+fn count(answer: &str) -> Option<usize> {
+    answer.strip_prefix("0,0,0,").and_then(|c| c.parse().ok())
+}
+
+fn are_packets(answer: &str, rest: &[&str]) -> bool {
+    count(answer) == Some(rest.len()) && rest.iter().all(|packet| are_numbers(packet, 7))
+}
+
 fn are_results(answer: &str, rest: &[&str]) -> bool {
-    let count = answer.strip_prefix("0,0,0,").and_then(|c| c.parse().ok());
-    let Some((order, rows)) = count.and_then(|count: usize| rest.split_at_checked(count)) else {
+    let Some((order, rows)) = count(answer).and_then(|count| rest.split_at_checked(count)) else {
         return false;
     };
     let [heading, rows @ ..] = rows else {
@@ -115,6 +125,19 @@ mod tests {
         assert!(!whole(&output(1, "0\r\n1\r\n"), ""));
         assert!(!whole(&output(1, "+1\r\n"), ""));
         assert!(!whole(output(0, "").trim_end(), ""));
+    }
+
+    #[test]
+    fn a_capture_has_a_line_for_each_packet() {
+        let output = |count: usize, lines: &str| {
+            format!("{ANSWER}\r\n0,0,0,{count}\r\n{PACKETS}\r\n{lines}")
+        };
+        let line = "0,0,10,100,0,0,80\r\n";
+        assert!(whole(&output(0, ""), "") && whole(&output(1, line), ""));
+        assert!(!whole(&output(2, line), "") && !whole(&output(0, line), ""));
+        assert!(!whole(&output(1, "0,0,10,100,0,0\r\n"), ""));
+        assert!(!whole(&output(1, &line.replace('\r', "")), ""));
+        assert!(!whole(&output(1, line), "refused 30: x.\n"));
     }
 
     #[test]

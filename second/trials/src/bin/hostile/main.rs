@@ -1,12 +1,15 @@
 //! The program `hostile PROVED SECOND`: two folders' programs over damaged files and arguments.
 #![forbid(unsafe_code)]
 
+mod capture_files;
+mod captures;
 mod equal;
 mod faulty;
 mod form;
 mod identifiers;
 mod long;
 mod plan;
+mod records;
 mod rounding;
 mod shares;
 mod streams;
@@ -19,7 +22,8 @@ use std::os::unix::fs::PermissionsExt;
 use std::path::Path;
 use std::process::ExitCode;
 
-use plan::{trials, Input, Trial};
+use form::ANSWER;
+use plan::{trials, Input, Trial, Wanted};
 use trials::{counted, folders, Bench, Both, End, Folder, Printed};
 
 /// Bytes of each stream that are shown of a run that goes wrong.
@@ -120,11 +124,18 @@ fn is_right(trial: &Trial, both: &Both) -> bool {
     ended && alike && form::is_whole(proved) && is_answered(trial, proved)
 }
 
-/// Whether the answer is the one that the trial says, if it says one.
+/// Whether what is printed is what the trial says, if it says something.
 fn is_answered(trial: &Trial, printed: &Printed) -> bool {
-    trial.answer.is_none_or(|[number, place]| {
-        let wanted = format!("answer,place,second,count\r\n{number},{place},0,0\r\n");
-        printed.output == wanted.as_bytes()
+    trial.wanted.as_ref().is_none_or(|wanted| match wanted {
+        Wanted::Answer([number, place]) => {
+            let wanted = format!("{ANSWER}\r\n{number},{place},0,0\r\n");
+            printed.output == wanted.as_bytes()
+        }
+        Wanted::Lines(lines) => {
+            let wanted: String = lines.iter().map(|line| format!("{line}\r\n")).collect();
+            printed.output == wanted.as_bytes()
+        }
+        Wanted::End(end) => printed.output.ends_with(end.as_bytes()),
     })
 }
 

@@ -4,6 +4,7 @@ use std::ffi::{OsStr, OsString};
 use std::fmt;
 use std::os::unix::ffi::OsStrExt;
 
+use crate::captures::hostile_captures;
 use crate::equal::equal_finishes;
 use crate::faulty::faulty_tables;
 use crate::identifiers::all_identifiers;
@@ -38,8 +39,18 @@ pub struct Trial {
     pub name: String,
     pub program: Program,
     pub inputs: Vec<Input>,
-    /// The number and the place that must be answered, where the trial says so.
-    pub answer: Option<[u32; 2]>,
+    /// What must be printed, where the trial says so.
+    pub wanted: Option<Wanted>,
+}
+
+#[derive(Clone)]
+pub enum Wanted {
+    /// A refusal with this number and place.
+    Answer([u32; 2]),
+    /// These lines, each of which ends in CR LF.
+    Lines(Vec<String>),
+    /// A sentence that ends so.
+    End(String),
 }
 
 impl fmt::Display for Trial {
@@ -48,16 +59,19 @@ impl fmt::Display for Trial {
     }
 }
 
-/// Both programs over the whole set.
+/// All programs over the whole set.
 pub fn trials() -> Vec<Trial> {
     let mut all = Vec::new();
     for text in tables() {
         all.extend(with_table(&text.name, Input::Bytes(text.bytes)));
     }
     for table in faulty_tables() {
-        let answer = Some(table.answer);
+        let wanted = Some(Wanted::Answer(table.answer));
         let both = with_table(&table.name, Input::Bytes(table.bytes));
-        all.extend(both.map(|trial| Trial { answer, ..trial }));
+        all.extend(both.map(|trial| Trial {
+            wanted: wanted.clone(),
+            ..trial
+        }));
     }
     all.extend(table_before_events());
     for text in lists() {
@@ -74,6 +88,7 @@ pub fn trials() -> Vec<Trial> {
     all.extend(with_lists("identifier", all_identifiers()));
     all.extend(numbers_of_arguments());
     all.extend(sheet_arguments());
+    all.extend(hostile_captures());
     all
 }
 
@@ -89,11 +104,11 @@ fn lists() -> Vec<Text> {
     texts
 }
 
-fn bytes(text: &str) -> Input {
+pub fn bytes(text: &str) -> Input {
     Input::Bytes(text.as_bytes().to_vec())
 }
 
-fn plain(argument: impl AsRef<OsStr>) -> Input {
+pub fn plain(argument: impl AsRef<OsStr>) -> Input {
     Input::Plain(argument.as_ref().to_os_string())
 }
 
@@ -102,7 +117,7 @@ fn with_table(name: &str, table: Input) -> [Trial; 2] {
         name: format!("table: {name}"),
         program,
         inputs: [vec![table.clone()], rest].concat(),
-        answer: None,
+        wanted: None,
     };
     [
         trial(Program::Replay, vec![bytes(EVENTS)]),
@@ -115,7 +130,7 @@ fn with_events(name: &str, events: Input) -> Trial {
         name: format!("events: {name}"),
         program: Program::Replay,
         inputs: vec![bytes(TABLE), events],
-        answer: None,
+        wanted: None,
     }
 }
 
@@ -124,18 +139,18 @@ fn table_before_events() -> Vec<Trial> {
     let missing = plain("/no such folder/file.csv");
     let tables = [
         ("a missing table", missing.clone(), None),
-        ("a faulty table", bytes("x"), Some([41, 1])),
+        ("a faulty table", bytes("x"), Some(Wanted::Answer([41, 1]))),
         ("a refused table", bytes(&TABLE[..25]), None),
     ];
     let events = [("missing", missing), ("faulty", bytes("x\n"))];
     let mut all = Vec::new();
-    for (name, table, answer) in tables {
+    for (name, table, wanted) in tables {
         for (what, events) in &events {
             all.push(Trial {
                 name: format!("{name}, {what} events"),
                 program: Program::Replay,
                 inputs: vec![table.clone(), events.clone()],
-                answer,
+                wanted: wanted.clone(),
             });
         }
     }
@@ -147,12 +162,12 @@ fn with_lists(what: &str, lists: Vec<(String, Case)>) -> impl Iterator<Item = Tr
         name: format!("{what}: {name}"),
         program: Program::Replay,
         inputs: vec![bytes(&case.table_text()), bytes(&case.event_text())],
-        answer: None,
+        wanted: None,
     })
 }
 
 /// Files that are none, and names that are odd.
-fn special() -> Vec<(String, Input)> {
+pub fn special() -> Vec<(String, Input)> {
     let long = "n".repeat(5000);
     let odd: [(&str, &[u8]); 7] = [
         ("missing", b"/no such folder/table.csv"),
@@ -181,7 +196,7 @@ fn numbers_of_arguments() -> Vec<Trial> {
         name: format!("{count} arguments"),
         program,
         inputs: vec![bytes(text); count],
-        answer: None,
+        wanted: None,
     };
     let mut all = Vec::new();
     for count in [0, 1].into_iter().chain(MANY) {
@@ -193,7 +208,7 @@ fn numbers_of_arguments() -> Vec<Trial> {
     all
 }
 
-/// Short words that LARGEST, OWN and PACKETS may be given as.
+/// Short words that a number may be given as.
 const SHORT: [&str; 32] = [
     "",
     "-1",
@@ -229,8 +244,8 @@ const SHORT: [&str; 32] = [
     "--help",
 ];
 
-/// What LARGEST, OWN and PACKETS may be given as.
-fn values() -> Vec<OsString> {
+/// What a number may be given as.
+pub fn values() -> Vec<OsString> {
     let mut values: Vec<OsString> = SHORT.into_iter().map(OsString::from).collect();
     for count in [1000, 100_000] {
         let zeros = "0".repeat(count);
@@ -244,15 +259,18 @@ fn values() -> Vec<OsString> {
     values
 }
 
+/// A value for a reader.
+pub fn shown(value: &OsStr) -> String {
+    let first: String = value.to_string_lossy().chars().take(24).collect();
+    format!("{first:?} of {} bytes", value.len())
+}
+
 fn sheet_arguments() -> Vec<Trial> {
-    let trial = |name: &str, value: &OsStr, rest: Vec<Input>| {
-        let shown: String = value.to_string_lossy().chars().take(24).collect();
-        Trial {
-            name: format!("{name} {shown:?} of {} bytes", value.len()),
-            program: Program::Promise,
-            inputs: [vec![bytes(TABLE)], rest].concat(),
-            answer: None,
-        }
+    let trial = |name: &str, value: &OsStr, rest: Vec<Input>| Trial {
+        name: format!("{name} {}", shown(value)),
+        program: Program::Promise,
+        inputs: [vec![bytes(TABLE)], rest].concat(),
+        wanted: None,
     };
     let mut all = Vec::new();
     for value in values() {

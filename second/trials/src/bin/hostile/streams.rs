@@ -6,8 +6,10 @@ use std::io::Result;
 use std::path::Path;
 use std::process::Command;
 
+use crate::captures::{small, NUMBERS};
 use crate::plan::{EVENTS, TABLE};
-use trials::{Bench, End, Printed, Program};
+use trials::captures::LAYOUTS;
+use trials::{Bench, End, Printed, Program, PROGRAMS};
 
 /// What is done to the streams, and whether standard output is left as it is.
 const CHANGES: [(&str, bool); 8] = [
@@ -26,8 +28,7 @@ const TABLES: [&str; 3] = [TABLE, "identifier,parent,share\r\n1,0,0\r\n", "x\n"]
 
 /// The names of the runs that go wrong, and how many runs there are in all.
 pub fn failures(bench: &Bench, folder: &Path) -> Result<(Vec<String>, usize)> {
-    let programs = [Program::Replay, Program::Promise];
-    let pairs = programs.into_iter().flat_map(|p| TABLES.map(|t| (p, t)));
+    let pairs = PROGRAMS.into_iter().flat_map(|p| TABLES.map(|t| (p, t)));
     let mut failures = Vec::new();
     let mut count = 0;
     for (program, table) in pairs {
@@ -44,27 +45,25 @@ fn failures_over(
     bench: &Bench,
     folder: &Path,
 ) -> Result<Vec<String>> {
-    let [file, events] = ["stream-table", "stream-events"].map(|name| folder.join(name));
-    fs::write(&file, table)?;
-    fs::write(&events, EVENTS)?;
-    let rest = match program {
-        Program::Replay => events.into_os_string(),
-        Program::Promise => OsString::from("1500"),
+    let (first, bytes) = match program {
+        Program::Capture => ("stream-capture", small(LAYOUTS[0]).bytes()),
+        _ => ("stream-table", table.as_bytes().to_vec()),
     };
+    let file = folder.join(first);
+    fs::write(&file, &bytes)?;
+    let rest = rest(program, table, folder)?;
     let path = &bench.paths(program)[0];
     let printed = |change| {
-        Printed::by(
-            changed(path, change).args([file.as_os_str(), &rest]),
-            folder,
-        )
+        let mut command = changed(path, change);
+        Printed::by(command.arg(&file).args(&rest), folder)
     };
     let usual = printed("")?;
     let mut failures = Vec::new();
     for (change, stays) in CHANGES {
         let said = printed(change)?;
         let ended = matches!(said.end, End::Status(_));
-        // A stream that is closed may have its number given to the table's file.
-        let kept = fs::read(&file)? == table.as_bytes();
+        // A stream that is closed may have its number given to the first file.
+        let kept = fs::read(&file)? == bytes;
         if !ended || !kept || (stays && said.output != usual.output) {
             failures.push(format!(
                 "{}, table {table:?}, {change}: {:?}",
@@ -74,6 +73,23 @@ fn failures_over(
         }
     }
     Ok(failures)
+}
+
+/// The arguments after the first file.
+fn rest(program: Program, table: &str, folder: &Path) -> Result<Vec<OsString>> {
+    let (second, text) = match program {
+        Program::Replay => ("stream-events", EVENTS),
+        Program::Promise => return Ok(vec!["1500".into()]),
+        Program::Capture => ("stream-table", table),
+    };
+    let file = folder.join(second);
+    fs::write(&file, text)?;
+    let numbers: &[&str] = match program {
+        Program::Capture => &NUMBERS,
+        _ => &[],
+    };
+    let numbers = numbers.iter().map(OsString::from);
+    Ok([file.into_os_string()].into_iter().chain(numbers).collect())
 }
 
 /// The program, started by a shell that changes its streams.

@@ -1,4 +1,5 @@
-//! The program `speed PROVED SECOND [RUNS]`: times both replayers over the same lists, as Markdown.
+//! The program `speed PROVED SECOND [RUNS]`: times both folders' programs over the same lists and
+//! captures, as Markdown.
 #![forbid(unsafe_code)]
 
 mod inputs;
@@ -48,7 +49,7 @@ fn speed(programs: [PathBuf; 2], runs: usize) -> Result<()> {
     let folder = Folder::fresh("speed")?;
     let bench = Bench::new(&programs, folder.path())?;
     println!("Whole programs, in milliseconds: the best and the median of {runs} runs of each,");
-    println!("taken in turn, with standard output thrown away. Ratios are replay to second.");
+    println!("taken in turn, with standard output thrown away. Ratios are proved to second.");
     for part in inputs::parts() {
         print_part(&part, &bench, runs)?;
     }
@@ -57,30 +58,31 @@ fn speed(programs: [PathBuf; 2], runs: usize) -> Result<()> {
 
 fn print_part(part: &Part, bench: &Bench, runs: usize) -> Result<()> {
     println!("\n{}\n", part.title);
+    let [what, many] = part.columns;
     println!(
-        "| List | Rows | Events | replay best | replay median \
+        "| {what} | Rows | {many} | proved best | proved median \
          | second best | second median | ratio of bests | ratio of medians |"
     );
     println!("|---|--:|--:|--:|--:|--:|--:|--:|--:|");
     for input in &part.inputs {
-        let case = input.case();
-        let times = times(bench, &case, runs)?;
-        println!("{}", line(input, case.rows.len(), &times));
+        let times = times(bench, &input.files(), runs)?;
+        println!("{}", line(input, &times));
     }
     Ok(())
 }
 
-fn line(input: &Input, rows: usize, [replay, second]: &[Times; 2]) -> String {
+fn line(input: &Input, [proved, second]: &[Times; 2]) -> String {
     format!(
-        "| {} | {rows} | {} | {:.1} | {:.1} | {:.1} | {:.1} | {:.2} | {:.2} |",
+        "| {} | {} | {} | {:.1} | {:.1} | {:.1} | {:.1} | {:.2} | {:.2} |",
         input.name,
+        input.rows(),
         with_commas(input.events),
-        replay.best(),
-        replay.median(),
+        proved.best(),
+        proved.median(),
         second.best(),
         second.median(),
-        replay.best() / second.best(),
-        replay.median() / second.median(),
+        proved.best() / second.best(),
+        proved.median() / second.median(),
     )
 }
 

@@ -1,30 +1,32 @@
-//! Times the two replayers over one list, in turn.
+//! Times the two programs over one list or capture, in turn.
 
+use std::ffi::OsString;
 use std::io::{Error, Result};
-use std::path::{Path, PathBuf};
+use std::path::Path;
 use std::process::{Command, Stdio};
 use std::time::Instant;
 
-use trials::{Bench, Case, Files, Program, Times};
+use trials::{Bench, Files, Times};
 
-/// Times of the two replayers over the list, in milliseconds, after one run of each that is not measured.
-pub fn times(bench: &Bench, case: &Case, runs: usize) -> Result<[Times; 2]> {
-    if bench.run(&Files::of(case))?.agreed() != Some(0) {
+/// Times of the two programs over the files, in milliseconds, after one run of each that is not measured.
+pub fn times(bench: &Bench, files: &Files, runs: usize) -> Result<[Times; 2]> {
+    let (program, arguments) = bench.lay(files)?;
+    if bench.over(program, &arguments)?.agreed() != Some(0) {
         return Err(Error::other("the two programs do not do the list alike"));
     }
     let mut times = [Times::default(), Times::default()];
     for _ in 0..runs {
-        for (program, times) in bench.paths(Program::Replay).iter().zip(&mut times) {
-            times.add(measured(program, &bench.files())?);
+        for (program, times) in bench.paths(program).iter().zip(&mut times) {
+            times.add(measured(program, &arguments)?);
         }
     }
     Ok(times)
 }
 
-fn measured(program: &Path, files: &[PathBuf]) -> Result<f64> {
+fn measured(program: &Path, arguments: &[OsString]) -> Result<f64> {
     let mut command = Command::new(program);
     command
-        .args(files)
+        .args(arguments)
         .stdin(Stdio::null())
         .stdout(Stdio::null());
     let begun = Instant::now();

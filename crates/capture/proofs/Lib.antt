@@ -1,0 +1,2 @@
+-- What the printing of packets rests on, apart from the code.
+mod Stamps
