@@ -11,7 +11,7 @@ ghost use Rattle.rules.specs.Outcome.{over};
 ghost use Rattle.octets.specs.Octets.{bytes-in, number-of, bytes-of, words-of, signed-bytes-of};
 
 // The word that four bytes are.
-fn joined(a: u8, b: u8, c: u8, d: u8) -> u32
+pub fn joined(a: u8, b: u8, c: u8, d: u8) -> u32
     ensures { λ r. ⌜ r ≡ number-of (a ∷ b ∷ c ∷ d ∷ []) ⌝ }
 {
     a as u32 + 256 * (b as u32) + 65536 * (c as u32) + 16777216 * (d as u32)

@@ -1,0 +1,3 @@
+-- What the contracts on captures state.
+pub mod Scans
+pub mod Reads
