@@ -109,7 +109,7 @@ pub passed-none : (tree : Tree) (events : Events) (rows : List ℕ) → rows ≡
 unfolding rows-for arrived finish-count first-below nothing
 passed-none tree events rows none = record { placed = none; came = refl; went = refl; none = refl }
 
-meeting-plain : (tree : Tree) (i word : ℕ) (e : Event) (idle : Bool) → Plain (meeting-refused tree i word e idle)
+pub meeting-plain : (tree : Tree) (i word : ℕ) (e : Event) (idle : Bool) → Plain (meeting-refused tree i word e idle)
 unfolding meeting-refused packet-refused first
 meeting-plain tree i word (Arrival class bytes) idle =
     or-else-plain (given _ 11 i) _ (given-plain _ 11 i (omega arith))

@@ -20,14 +20,14 @@ use input::EventRows;
 use input::OnAirRows;
 use input::Refusal;
 use input::RowMarks;
-use rows::filed;
+pub use rows::filed;
 use rows::row_of;
 use tables::Reading;
 
 // An event as it is checked: what refuses it, and where nothing does the row that it is for.
-struct EventCheck {
-    refusal: Refusal,
-    row: u8,
+pub struct EventCheck {
+    pub refusal: Refusal,
+    pub row: u8,
 }
 
 // The list of events as it is checked: the first refusal, and where there is none the row that each event is for.
@@ -216,7 +216,7 @@ fn check_finish(i: usize, word: u32, idle: bool) -> EventCheck
 }
 
 // An event at place i, with its length word, where the line is idle or not.
-fn check_event(
+pub fn check_event(
     identifiers: &[u32],
     rows: &OnAirRows,
     senders: &RowMarks,

@@ -26,7 +26,7 @@ use input::RowMarks;
 use input::RowWords;
 
 // Before the first event: to look at them, all children are listed; heaps are empty, as the arrays begin.
-fn open(way: Way, rows: usize, parents: &RowWords, roots: &mut Roots, right: &mut Sides)
+pub fn open(way: Way, rows: usize, parents: &RowWords, roots: &mut Roots, right: &mut Sides)
     requires { ⌜ (0 < rows) × (rows ≤ most-rows) ⌝ }
     requires { ⌜ (now roots ≡ lists.replicate most-heaps 0) × (now right ≡ lists.replicate most-members 0) ⌝ }
     ensures { λ _. ⌜ ((ids depths shares : List ℕ) (class-of : ℕ → ℕ)
