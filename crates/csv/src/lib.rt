@@ -6,6 +6,7 @@ mod scans;
 mod writing;
 
 pub use places::after;
+pub use reading::copy;
 pub use reading::read_rows;
 pub use reading::read_table;
 pub use scans::unread;

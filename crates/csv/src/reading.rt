@@ -192,7 +192,7 @@ fn copy_rows(
 }
 
 // All of these words, over the first of a slice that has as many.
-fn copy(words: &[u32], lent: &mut [u32])
+pub fn copy(words: &[u32], lent: &mut [u32])
     requires { ⌜ length (now words) ≤ length (now lent) ⌝ }
     ensures { λ _. ⌜ now (lent .exit) ≡ over (now (words .entry)) (now (lent .entry)) ⌝ }
 {

@@ -1,0 +1,3 @@
+-- What the contracts of the replay speak of beside its definitions.
+pub mod Lent
+pub mod Replayed
