@@ -6,7 +6,7 @@ use native.Mathlib.Decide.{decLe}
 use native.Mathlib.Omega.{arith}
 use lib.ListN.{getD, take, length-take, List·getD-eq-default}
 use lib.Seq.{getD-take}
-use Rattle.timetable.specs.Free.{most-stamp, Stamped}
+use Rattle.pcap.specs.Lists.{most-stamp, Stamped}
 
 pub part-stamped : (stamps : List ℕ) (n : ℕ) → ((k : ℕ) → k < n → getD stamps k 0 < 2 ^ 53) → Stamped (take n stamps)
 part-stamped stamps n small k = go (decLe (suc k) n)

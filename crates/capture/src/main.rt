@@ -11,7 +11,7 @@ ghost use mathlib.Core.Path.{_≡_};
 ghost use Prim.Native.Nat.{_≤_};
 ghost use lib.ListN.{length};
 ghost use Rattle.input.specs.Limits.{most-events};
-ghost use Rattle.timetable.specs.Free.{Stamped};
+ghost use Rattle.pcap.specs.Lists.{Stamped};
 use asked::argument;
 use captures::MOST_RECORDS;
 use choosing::Way;

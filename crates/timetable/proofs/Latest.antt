@@ -7,9 +7,9 @@ use lib.ListN.{length}
 use Rattle.input.specs.Limits.{most-bytes, most-events}
 use Rattle.input.specs.Events.{Events, length-word}
 use Rattle.input.proofs.Charges.{rounded-most}
-use Rattle.pcap.specs.Lists.{sending}
+use Rattle.pcap.specs.Lists.{Stamped, sending}
 use Rattle.pcap.specs.Printed.{record-of, arrived-at, free-after}
-use Rattle.timetable.specs.Free.{free-through, most-free, Stamped}
+use Rattle.timetable.specs.Free.{free-through, most-free}
 
 -- sending takes at most a second a byte
 pub sending-most : (rate bytes : ℕ) → sending rate bytes ≤ bytes * 1000000

@@ -1,7 +1,6 @@
 -- When the line is free again after some packets, one sent after the other.
-use Prim.Native.Nat.{ℕ, _<_, _^_}
+use Prim.Native.Nat.{ℕ, _^_}
 use mathlib.Core.List.{List, [], _∷_}
-use lib.ListN.{getD}
 use Rattle.input.specs.Events.{Events}
 use Rattle.pcap.specs.Printed.{free-after}
 
@@ -13,12 +12,6 @@ free-through stamps rate events free (i ∷ later) = free-through stamps rate ev
 abbrev pub most-packets : ℕ
 most-packets = 512
 
--- numbers that 64 bits hold with all that is added to them: a stamp, and a moment from which the line is free
-abbrev pub most-stamp : ℕ
-most-stamp = 2 ^ 53
-
+-- the latest moment from which lines can be put: 64 bits hold it with all that is added
 abbrev pub most-free : ℕ
 most-free = 2 ^ 62
-
-abbrev pub Stamped : List ℕ → Type 0
-Stamped stamps = (k : ℕ) → getD stamps k 0 < most-stamp
