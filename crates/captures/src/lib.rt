@@ -2,10 +2,8 @@
 ghost use mathlib.Core.Path.{_≡_};
 ghost use Prim.Native.Nat.{ℕ, _*_, _≤_, _<_, _^_};
 ghost use lib.ListN as lists;
-ghost use Rattle.input.specs.Limits.{most-events};
 ghost use Rattle.input.specs.Classes.{Table, tree-of};
 ghost use Rattle.input.specs.Events.{Events};
-ghost use Rattle.input.specs.EventRows.{no-rows};
 ghost use Rattle.input.specs.Refusals.{or-else};
 ghost use Rattle.input.specs.Lent.{table-of, events-of, room-with};
 ghost use Rattle.checks.specs.Counted.{SlicesOf, lengths-refused};
@@ -126,13 +124,6 @@ fn run_list(
     answer
 }
 
-// A zero for each event that there can be. A proof that looked at more than its length would count all of them.
-fn no_words() -> [u32; MOST_EVENTS]
-    ensures { λ r. ⌜ most-events ≡ lists.length r ⌝ }
-{
-    [0; MOST_EVENTS]
-}
-
 // Packets that arrive at these moments, replayed: the table's own refusals, then those of the list, and the run.
 fn replay_packets(
     way: Way,
@@ -171,8 +162,8 @@ fn replay_packets(
     let parents = reading.parents;
     let depths = reading.depths;
     let parts = reading.shares;
-    let mut list_classes = no_words();
-    let mut list_lengths = no_words();
+    let mut list_classes = listing::no_words();
+    let mut list_lengths = listing::no_words();
     let refusal = listing::list(
         way,
         stamps,

@@ -143,7 +143,7 @@ fn take_event(
 }
 
 // A zero for each event that there can be. A proof that looked at more than these two facts would count all of them.
-fn no_words() -> [u32; MOST_EVENTS]
+pub fn no_words() -> [u32; MOST_EVENTS]
     ensures { λ r. ⌜ (r ≡ no-rows) × (most-events ≡ lists.length r) ⌝ }
 {
     [0; MOST_EVENTS]

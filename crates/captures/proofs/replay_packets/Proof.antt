@@ -48,10 +48,10 @@ module _ (l : tie.After-list) where
   events = 2 * length (start .args .stamps .now)
 
   classes-long : events ≤ length (l .list .last .1 .1 .1 .1 .1 .1 .1 .1 .1 .1 .0)
-  classes-long = omega (arith, few start, l .list .kept .1 .1 .1 .1 .1 .1 .1 .1 .1 .1 .0, l .before .before .before .before .before .before .before .before .no-words .ensures)
+  classes-long = omega (arith, few start, l .list .kept .1 .1 .1 .1 .1 .1 .1 .1 .1 .1 .0, l .before .before .before .before .before .before .before .before .no-words .ensures .1)
 
   lengths-long : events ≤ length (l .list .last .1 .1 .1 .1 .1 .1 .1 .1 .1 .1 .1 .0)
-  lengths-long = omega (arith, few start, l .list .kept .1 .1 .1 .1 .1 .1 .1 .1 .1 .1 .1 .0, l .before .before .before .before .before .before .before .no-words2 .ensures)
+  lengths-long = omega (arith, few start, l .list .kept .1 .1 .1 .1 .1 .1 .1 .1 .1 .1 .1 .0, l .before .before .before .before .before .before .before .no-words2 .ensures .1)
 
 read-sized-requires : tie.Need-read-sized-requires
 read-sized-requires c κs = let s = c .before .before .before .before .before .before .before .before .before .before .before in sized (table s) (rows-pass (table s) (list s) (room s) (lengths-ok s))
@@ -81,7 +81,7 @@ list-requires : tie.Need-list-requires
 list-requires c κs =
     let s = c .before .before .before .before .before .before .before .before .before .before .before .before .before .before .before .before .before .before .before .before .before .before .before .before .before .before .before in (
       ground (table s) (rows-pass (table s) (list s) (room s) (lengths-ok s)) (c .before .before .before .before .before .before .before .before .before .before .before .before .before .before .before .read-sized .result) (c .before .before .before .before .before .before .before .before .before .before .before .before .before .before .before .read-sized .ensures) (c .before .before .before .before .before .before .before .before .before .before .before .before .if1 .left),
-      (s .pre .0, (few s, (omega (arith, few s, c .before .before .before .before .before .before .before .no-words .ensures), omega (arith, few s, c .before .before .before .before .before .before .no-words2 .ensures)))),
+      (s .pre .0, (few s, (omega (arith, few s, c .before .before .before .before .before .before .before .no-words .ensures .1), omega (arith, few s, c .before .before .before .before .before .before .no-words2 .ensures .1)))),
     )
 
 refused-requires-2 : tie.Need-refused-requires-2
