@@ -10,7 +10,6 @@ use lib.Dec.{ltb, eqb}
 use lib.ListN.{length, take}
 use lib.IntN.{ℤ}
 use borrow.Author.Tests.{eq-eqb, ne-eqb, le-ltb, ltb-false}
-use mathlib.Mathlib.Data.Bool.Basic.{or-eq-false-eq-eq-false-and-eq-false as or-is-false}
 use Rattle.input.specs.declared.Refusal.{Refusal}
 use Rattle.input.specs.declared.Answer.{Answer}
 use Rattle.input.specs.Limits.{report-words, most-events}
@@ -27,7 +26,7 @@ use Rattle.tables.specs.Sized.{Sized}
 use Rattle.tables.proofs.Answering.{answer-accepts, sized}
 use Rattle.tables.proofs.Firsts.{or-else-second}
 use Rattle.checks.specs.Counted.{lengths-refused}
-use Rattle.checks.proofs.Whole.{answer-refusal}
+use Rattle.checks.proofs.Whole.{answer-refusal, by-table, whole-rows, whole-listed}
 use Rattle.checks.proofs.Rooted.{known}
 use Rattle.events.specs.State.{Fit}
 use Rattle.engine.specs.Run.{left-of}
@@ -38,7 +37,7 @@ use Rattle.pcap.proofs.Listing.{listed-count, listed-even}
 use Rattle.listing.specs.Reached.{Ground, Lists}
 use Rattle.captures.specs.Lent.{lent-with}
 use Rattle.captures.specs.Replayed.{Replayed}
-use Rattle.captures.proofs.Refusing.{run-refused, by-the-table, by-an-event}
+use Rattle.captures.proofs.Refusing.{run-refused, by-an-event}
 
 -- ── refused ──
 
@@ -99,20 +98,6 @@ module _ (table : Table) (rows-ok : rows-refused table .number ≡ 0) where
         rw (tree-same, ap (λ (r : Reading). r .senders) read)
         (record { fit = fit table (events-of [] []) _ (none-refused fine); known = all })
 
--- ── the lengths ──
-
-module _ (table : Table) (events : Events) (room : Room) (ok : lengths-refused table events room .number ≡ 0) where
-  pub rows-pass : rows-refused table .number ≡ 0
-  unfolding lengths-refused first
-  rows-pass = or-none (rows-refused table) _ ok .0
-
-  pub few-events : count events ≤ most-events
-  unfolding lengths-refused first events-refused
-  few-events =
-      let rest = or-none (rows-refused table) (or-else (events-refused events) (or-else (room-refused (length (table .identifiers)) (count events) room) nothing)) ok .1 in
-      let own = or-none (events-refused events) _ rest .0 in
-      ltb-false most-events (count events) (or-is-false (not (eqb (length (events .lengths)) (count events))) (ltb most-events (count events)) .0 (given-none _ _ _ own) .1)
-
 -- ── replayed ──
 
 module _ (table : Table) (arrivals : Arrivals) (rate : ℕ) (order report : List ℕ) (lags : List ℤ) (working : List ℕ) where
@@ -131,7 +116,7 @@ module _ (table : Table) (arrivals : Arrivals) (rate : ℕ) (order report : List
 
   module _ (lengths-ok : lengths-refused table list room .number ≡ 0) where
     pub few-packets : 2 * packets arrivals ≤ most-events
-    few-packets = omega (arith, list-count (tree-of table) arrivals rate, few-events table list room lengths-ok)
+    few-packets = omega (arith, list-count (tree-of table) arrivals rate, whole-listed table list room lengths-ok .few)
 
     -- the table is refused
     pub table-replayed : (reading : Reading) → reading ≡ answer (table-refused table) (tree-of table) → reading .refusal .number ≢ 0
@@ -140,14 +125,14 @@ module _ (table : Table) (arrivals : Arrivals) (rate : ℕ) (order report : List
     table-replayed reading is some given-answer answer-is classes lengths =
         let same : reading .refusal ≡ table-refused table = rw is (answer-refusal (table-refused table) (tree-of table)) in
         rw (answer-is, same)
-        (refused-replayed lent (table-refused table) (rw room-is (by-the-table table list room lengths-ok (rw same at some))) (rw same at some) classes lengths)
+        (refused-replayed lent (table-refused table) (rw room-is (by-table table list room lengths-ok (rw same at some))) (rw same at some) classes lengths)
 
     module _ (reading : Reading) (is : reading ≡ answer (table-refused table) (tree-of table)) (passes : reading .refusal .number ≡ 0) where
       abbrev tree : Tree
       tree = tree-at (table .identifiers) (reading .parents) (reading .depths) (reading .shares)
 
       same-tree-here : tree ≡ tree-of table
-      same-tree-here = tree-same table (rows-pass table list room lengths-ok) reading is passes
+      same-tree-here = tree-same table (whole-rows table list room lengths-ok) reading is passes
 
       module _ (refusal : Refusal) (list-classes list-lengths : List ℕ) (lists : Lists tree arrivals rate refusal list-classes list-lengths) where
         own-lists : Lists (tree-of table) arrivals rate refusal list-classes list-lengths
@@ -157,7 +142,7 @@ module _ (table : Table) (arrivals : Arrivals) (rate : ℕ) (order report : List
         pub event-replayed : refusal .number ≢ 0 → (given-answer : Answer) → given-answer ≡ answer-of refusal 0 → (classes lengths : List ℕ)
             → Replayed lent classes lengths (left-of given-answer order report lags working) classes lengths
         event-replayed some given-answer answer-is classes lengths =
-            let ok = fine table (rows-pass table list room lengths-ok) reading is passes in
+            let ok = fine table (whole-rows table list room lengths-ok) reading is passes in
             let same : refusal ≡ first-below (event-refused (tree-of table) list) (count list) =
             rw (list-count (tree-of table) arrivals rate) (own-lists .refusal-is) in
             rw answer-is

@@ -30,21 +30,7 @@ pub run-refused : (lent : Lent) (r : Refusal) → refused (lent .table) (lent .e
 unfolding outcome
 run-refused lent r is some = rw (is, ne-eqb (r .number) 0 some)
 
--- lengths pass, the table is refused
-pub by-the-table : (table : Table) (events : Events) (room : Room) → lengths-refused table events room .number ≡ 0 → table-refused table .number ≢ 0
-    → refused table events room ≡ table-refused table
-unfolding refused lengths-refused first
-by-the-table table events room fine some =
-    let rows = length (table .identifiers) in
-    let a = rows-refused table in
-    let b = events-refused events in
-    let c = room-refused rows (count events) room in
-    let one = or-none a (or-else b (or-else c nothing)) fine in
-    let two = or-none b (or-else c nothing) (one .1) in
-    let three = or-none c nothing (two .1) in
-    or-else-second a _ (one .0) ∙ or-else-second b _ (two .0) ∙ or-else-second c _ (three .0) ∙ or-else-first (table-refused table) _ some
-
--- the table passes too, an event is refused
+-- lengths and table pass, an event is refused
 pub by-an-event : (table : Table) (events : Events) (room : Room) → lengths-refused table events room .number ≡ 0 → table-refused table .number ≡ 0
     → first-below (event-refused (tree-of table) events) (count events) .number ≢ 0
     → refused table events room ≡ first-below (event-refused (tree-of table) events) (count events)

@@ -24,6 +24,7 @@ use Rattle.rules.specs.Outcome.{Outcome, over, room-of, refusing, outcome}
 use Rattle.laws.proofs.tree.Trees.{given-none}
 use Rattle.tables.proofs.Firsts.{or-else-first}
 use Rattle.checks.specs.Counted.{SlicesOf, lengths-refused}
+use Rattle.checks.proofs.Whole.{whole-listed}
 use Rattle.engine.specs.Run.{left-of}
 use Rattle.forms.specs.Outcomes.{answer-of}
 use Rattle.pcap.specs.declared.Sorting.{Sorting}
@@ -40,7 +41,7 @@ use Rattle.records.proofs.Turns.{stamps-long, classes-long, lengths-long}
 use Rattle.captures.specs.Lent.{capture-left, lent-with}
 use Rattle.captures.specs.Replayed.{Replayed}
 use Rattle.captures.proofs.Refusing.{captured-refused, captured-run, found-first, none-first, before-none}
-use Rattle.captures.proofs.Packets.{list-count, list-even, few-events}
+use Rattle.captures.proofs.Packets.{list-count, list-even}
 
 -- ── how many records there are ──
 
@@ -211,7 +212,7 @@ module _ (lent : CaptureLent) (scan : Scan) (is : Scans (lent .capture) (lent .r
   pub few-records : scan .records ≤ 32768
   few-records =
       let fine = lengths-pass lent scan is r look none in
-      omega (arith, few-events (lent .table) (captured-list lent) (room lent scan is) fine, counted-here)
+      omega (arith, whole-listed (lent .table) (captured-list lent) (room lent scan is) fine .few, counted-here)
     where
       counted-here : count (captured-list lent) ≡ 2 * scan .records
       counted-here = count-is lent scan is (passed lent scan is r look none .0)

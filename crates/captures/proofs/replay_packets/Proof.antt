@@ -11,10 +11,10 @@ use Rattle.input.specs.Classes.{Table, tree-of}
 use Rattle.input.specs.Events.{Events}
 use Rattle.input.specs.Refusals.{Room}
 use Rattle.input.specs.Lent.{table-of, room-with}
-use Rattle.tables.proofs.Answering.{sized}
+use Rattle.checks.proofs.Whole.{whole-rows, whole-sized}
 use Rattle.checks.specs.Counted.{lengths-refused}
 use Rattle.pcap.specs.Lists.{Arrivals, arrivals-with, list-of}
-use Rattle.captures.proofs.Packets.{ground, rows-pass, few-packets, table-replayed, event-replayed, list-replayed}
+use Rattle.captures.proofs.Packets.{ground, few-packets, table-replayed, event-replayed, list-replayed}
 use Rattle.captures.proofs.replay_packets.Statement.{statement}
 use Rattle.captures.proofs.replay_packets.Tie as tie
 
@@ -54,7 +54,7 @@ module _ (l : tie.After-list) where
   lengths-long = omega (arith, few start, l .list .kept .1 .1 .1 .1 .1 .1 .1 .1 .1 .1 .1 .0, l .before .before .before .before .before .before .before .no-words2 .ensures .1)
 
 read-sized-requires : tie.Need-read-sized-requires
-read-sized-requires c κs = let s = c .before .before .before .before .before .before .before .before .before .before .before in sized (table s) (rows-pass (table s) (list s) (room s) (lengths-ok s))
+read-sized-requires c κs = let s = c .before .before .before .before .before .before .before .before .before .before .before in whole-sized (table s) (list s) (room s) (lengths-ok s)
 
 refused-requires : tie.Need-refused-requires
 refused-requires c κs = search needs
@@ -80,7 +80,7 @@ slice-aggregate-list-2 c = search needs
 list-requires : tie.Need-list-requires
 list-requires c κs =
     let s = c .before .before .before .before .before .before .before .before .before .before .before .before .before .before .before .before .before .before .before .before .before .before .before .before .before .before .before in (
-      ground (table s) (rows-pass (table s) (list s) (room s) (lengths-ok s)) (c .before .before .before .before .before .before .before .before .before .before .before .before .before .before .before .read-sized .result) (c .before .before .before .before .before .before .before .before .before .before .before .before .before .before .before .read-sized .ensures) (c .before .before .before .before .before .before .before .before .before .before .before .before .if1 .left),
+      ground (table s) (whole-rows (table s) (list s) (room s) (lengths-ok s)) (c .before .before .before .before .before .before .before .before .before .before .before .before .before .before .before .read-sized .result) (c .before .before .before .before .before .before .before .before .before .before .before .before .before .before .before .read-sized .ensures) (c .before .before .before .before .before .before .before .before .before .before .before .before .if1 .left),
       (s .pre .0, (few s, (omega (arith, few s, c .before .before .before .before .before .before .before .no-words .ensures .1), omega (arith, few s, c .before .before .before .before .before .before .no-words2 .ensures .1)))),
     )
 
