@@ -1,6 +1,6 @@
 // The numbers that the arguments ask for.
 use files::hand_over;
-use libc::STDOUT_FILENO;
+use libc::STDERR_FILENO;
 use output::put_byte;
 use output::put_named;
 use output::put_text;
@@ -25,7 +25,7 @@ fn complain(name: &[u8], field: Field) {
     let used = put_text(&mut page, used, name);
     let used = put_fault(&mut page, used, field);
     let used = put_byte(&mut page, used, 10);
-    hand_over(STDOUT_FILENO, &page, used);
+    hand_over(STDERR_FILENO, &page, used);
 }
 
 fn put_fault(page: &mut [u8], used: usize, field: Field) -> usize {

@@ -1,6 +1,6 @@
 // capture CAPTURE TABLE FIRST SECOND THIRD RATE: reads a capture and a class table, replays the capture's packets over a line that carries
 // RATE bytes a second, each for one of three classes by its code point, and prints the answer and, for each packet, when it arrived, went
-// on the line and was finished; or says what cannot be read; or, to standard error, what a refusal names and how to mend it.
+// on the line and was finished; to standard error it says what cannot be read or written, or what a refusal names and how to mend it.
 mod asked;
 mod packets;
 mod printing;
@@ -15,13 +15,16 @@ ghost use Rattle.pcap.specs.Lists.{Stamped};
 use asked::argument;
 use captures::MOST_RECORDS;
 use choosing::Way;
+use files::Status;
+use files::complain;
+use files::end_with;
 use files::first;
+use files::input_twice;
 use files::load_capture;
 use files::load_table;
 use input::Answer;
 use input::MOST_EVENTS;
 use input::REPORT_WORDS;
-use libc::STDOUT_FILENO;
 use pcap::Sorting;
 use reading::read_records;
 use sentences::HELD_ROWS;
@@ -31,21 +34,30 @@ use text::Field;
 const HELD_CAPTURE: usize = 4194304;
 
 fn main() {
+    end_with(called());
+}
+
+// Looks at the call and goes on.
+fn called() -> Status {
     if os::arg_count() != 7 {
-        usage();
-        return;
+        return complain(
+            b"cannot read: give a capture, a class table, three classes and a rate, capture CAPTURE TABLE FIRST SECOND THIRD RATE\n",
+        );
+    }
+    if input_twice() {
+        return files::twice();
     }
     let Field::Number(first) = argument(3, b"FIRST") else {
-        return;
+        return Status::Failed;
     };
     let Field::Number(second) = argument(4, b"SECOND") else {
-        return;
+        return Status::Failed;
     };
     let Field::Number(third) = argument(5, b"THIRD") else {
-        return;
+        return Status::Failed;
     };
     let Field::Number(rate) = argument(6, b"RATE") else {
-        return;
+        return Status::Failed;
     };
     with_numbers(
         Sorting {
@@ -54,24 +66,18 @@ fn main() {
             third,
         },
         rate,
-    );
-}
-
-fn usage() {
-    io::write_all(
-        STDOUT_FILENO,
-        b"cannot read: give a capture, a class table, three classes and a rate, capture CAPTURE TABLE FIRST SECOND THIRD RATE\n",
-    );
+    )
 }
 
 // Reads the capture and goes on.
-fn with_numbers(sorting: Sorting, rate: u32) {
+fn with_numbers(sorting: Sorting, rate: u32) -> Status {
     let mut capture = blank();
     let held = load_capture(1, &mut capture);
     let size = held.size;
     if held.good {
-        with_capture(&capture[..size], sorting, rate);
+        return with_capture(&capture[..size], sorting, rate);
     }
+    Status::Failed
 }
 
 // Room for a capture. Its length is all that lending it needs, and a proof that looks at more would count all its bytes.
@@ -82,13 +88,14 @@ fn blank() -> [u8; HELD_CAPTURE]
 }
 
 // Reads the table and goes on.
-fn with_capture(capture: &[u8], sorting: Sorting, rate: u32) {
+fn with_capture(capture: &[u8], sorting: Sorting, rate: u32) -> Status {
     let mut identifiers = [0u32; HELD_ROWS];
     let mut parents = [0u32; HELD_ROWS];
     let mut shares = [0u32; HELD_ROWS];
     let table = load_table(2, &mut identifiers, &mut parents, &mut shares);
-    if table.good {
-        with_table(
+    let status = table.status;
+    if let Status::Done = status {
+        return with_table(
             capture,
             sorting,
             rate,
@@ -98,6 +105,7 @@ fn with_capture(capture: &[u8], sorting: Sorting, rate: u32) {
             first(&shares, table.rows),
         );
     }
+    status
 }
 
 // Reads the records and goes on. Their classes and lengths stand where the list is put, and stay there if it is refused. The count of rows
@@ -110,7 +118,7 @@ fn with_table<'a>(
     identifiers: &'a [u32],
     parents: &'a [u32],
     shares: &'a [u32],
-) {
+) -> Status {
     let mut stamps = [0u64; MOST_RECORDS];
     let mut classes = [0u32; MOST_EVENTS];
     let mut lengths = [0u32; MOST_EVENTS];
@@ -133,7 +141,7 @@ fn with_table<'a>(
         &stamps[..count],
         &mut classes,
         &mut lengths,
-    );
+    )
 }
 
 // Replays the packets and prints what came of it.
@@ -148,7 +156,7 @@ fn replay<'a>(
     stamps: &'a [u64],
     classes: &mut [u32],
     lengths: &mut [u32],
-)
+) -> Status
     requires { ⌜ Stamped (now stamps) × (length (now classes) ≤ most-events) ⌝ }
 {
     let mut order = [0u32; MOST_EVENTS];
@@ -163,7 +171,9 @@ fn replay<'a>(
         lengths,
         &mut order,
     );
-    printing::print(answer, rate, stamps, classes, lengths, &order);
+    if answer.number == 0 {
+        return printing::print(answer, rate, stamps, classes, lengths, &order);
+    }
     refusals::tell(
         answer,
         capture,
@@ -174,7 +184,7 @@ fn replay<'a>(
         shares,
         classes,
         lengths,
-    );
+    )
 }
 
 // The run, whose report and lags are not printed.

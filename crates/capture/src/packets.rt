@@ -1,4 +1,4 @@
-// A refusal of a packet, 11 to 13, as one sentence for a person: which record it is, and what to mend.
+// What a sentence says of a refused packet, 11 to 13: which record it is, and what to mend.
 ghost use Prim.Native.Nat.{_<_, _^_};
 use crate::reading::headed;
 use crate::reading::number_of;
@@ -28,6 +28,7 @@ struct Packet {
 
 pub fn of_packet<'a>(
     page: &mut [u8],
+    used: usize,
     answer: Answer,
     capture: &'a [u8],
     identifiers: &'a [u32],
@@ -45,7 +46,7 @@ pub fn of_packet<'a>(
         length: word(lengths, record),
         point: code_point(capture, at),
     };
-    put_sentence(page, answer.number, named, identifiers)
+    put_sentence(page, used, answer.number, named, identifiers)
 }
 
 // The first record that this number refuses is the one that was refused: packets arrive in the order of their records, and finishes are not
@@ -133,12 +134,18 @@ fn point_of(packet: &[u8]) -> u64 {
     number_of(packet[1] / 4)
 }
 
-fn put_sentence(page: &mut [u8], number: u32, named: Packet, identifiers: &[u32]) -> usize {
+fn put_sentence(
+    page: &mut [u8],
+    used: usize,
+    number: u32,
+    named: Packet,
+    identifiers: &[u32],
+) -> usize {
     match number {
         11 => fill(
             page,
-            0,
-            b"refused 11: record # (byte #), event # of the list, is for class #, which no row has; name a class of the table for code point #.\n",
+            used,
+            b"record # (byte #), event # of the list, is for class #, which no row has; name a class of the table for code point #.\n",
             &[
                 named.record,
                 named.byte,
@@ -147,20 +154,20 @@ fn put_sentence(page: &mut [u8], number: u32, named: Packet, identifiers: &[u32]
                 named.point,
             ],
         ),
-        12 => not_sending(page, named, row_of(identifiers, named.class)),
-        _ => of_length(page, named),
+        12 => not_sending(page, used, named, row_of(identifiers, named.class)),
+        _ => of_length(page, used, named),
     }
 }
 
 // 12, of a packet for the class of this row. A table's file has its heading in line 1, so row 0 is in line 2.
-fn not_sending(page: &mut [u8], named: Packet, row: usize) -> usize
+fn not_sending(page: &mut [u8], used: usize, named: Packet, row: usize) -> usize
     requires { ⌜ row < 2 ^ 63 ⌝ }
 {
     if row == 0 {
         return fill(
             page,
-            0,
-            b"refused 12: record # (byte #), event # of the list, is for class #, row 0 (line 2), which is the line itself; name a class with no class below it for code point #.\n",
+            used,
+            b"record # (byte #), event # of the list, is for class #, row 0 (line 2), which is the line itself; name a class with no class below it for code point #.\n",
             &[
                 named.record,
                 named.byte,
@@ -172,8 +179,8 @@ fn not_sending(page: &mut [u8], named: Packet, row: usize) -> usize
     }
     fill(
         page,
-        0,
-        b"refused 12: record # (byte #), event # of the list, is for class #, row # (line #), which has classes below it; name a class with no class below it for code point #.\n",
+        used,
+        b"record # (byte #), event # of the list, is for class #, row # (line #), which has classes below it; name a class with no class below it for code point #.\n",
         &[
             named.record,
             named.byte,
@@ -187,19 +194,19 @@ fn not_sending(page: &mut [u8], named: Packet, row: usize) -> usize
 }
 
 // 13.
-fn of_length(page: &mut [u8], named: Packet) -> usize {
+fn of_length(page: &mut [u8], used: usize, named: Packet) -> usize {
     if named.class == 0 {
         return fill(
             page,
-            0,
-            b"refused 13: record # (byte #), event # of the list, is for class 0, which is no class; name a class of the table for code point #.\n",
+            used,
+            b"record # (byte #), event # of the list, is for class 0, which is no class; name a class of the table for code point #.\n",
             &[named.record, named.byte, named.event, named.point],
         );
     }
     fill(
         page,
-        0,
-        b"refused 13: record # (byte #), event # of the list, for class #, has original length #; a packet has # to # bytes.\n",
+        used,
+        b"record # (byte #), event # of the list, for class #, has original length #; a packet has # to # bytes.\n",
         &[
             named.record,
             named.byte,

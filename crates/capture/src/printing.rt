@@ -6,17 +6,16 @@ ghost use Rattle.input.specs.Limits.{most-events};
 ghost use Rattle.timetable.specs.Counted.{Recorded};
 ghost use Rattle.pcap.specs.Lists.{Stamped};
 ghost use Rattle.timetable.specs.Free.{most-packets, most-free};
+use files::Status;
 use files::first;
-use files::hand_over;
 use input::Answer;
 use input::MOST_EVENTS;
-use libc::STDOUT_FILENO;
 use timetable::MOST_FREE;
 use timetable::MOST_PACKETS;
 use timetable::PACKETS_BYTES;
 use words::long;
 
-// Prints all of it, from the records' stamps, the list that was replayed and the order of sending; of a refused replay, nothing.
+// Prints all of it, from the records' stamps, the list that was replayed and the order of sending, and answers how that ended.
 pub fn print<'a>(
     answer: Answer,
     rate: u32,
@@ -24,14 +23,11 @@ pub fn print<'a>(
     classes: &'a [u32],
     lengths: &'a [u32],
     order: &'a [u32],
-)
+) -> Status
     requires { ⌜ Stamped (now stamps) × (length (now classes) ≤ most-events) ⌝ }
 {
-    if answer.number != 0 {
-        return;
-    }
     if !print_heading(answer) {
-        return;
+        return Status::Failed;
     }
     let packets = long(answer.count);
     print_packets(
@@ -40,7 +36,7 @@ pub fn print<'a>(
         first(classes, 2 * packets),
         first(lengths, 2 * packets),
         first(order, packets),
-    );
+    )
 }
 
 // The answer's two lines and the heading; answers whether they were written.
@@ -48,7 +44,7 @@ fn print_heading(answer: Answer) -> bool {
     let mut page = [0u8; 512];
     let used = lines::put_answer(&mut page, 0, answer);
     let used = timetable::put_heading(&mut page, used);
-    hand_over(STDOUT_FILENO, &page, used)
+    files::print(&page, used)
 }
 
 fn print_packets<'a>(
@@ -57,12 +53,12 @@ fn print_packets<'a>(
     classes: &'a [u32],
     lengths: &'a [u32],
     order: &'a [u32],
-)
+) -> Status
     requires { ⌜ Stamped (now stamps) × (length (now classes) ≤ most-events) ⌝ }
 {
     let mut records = [0u32; MOST_EVENTS + 1];
     timetable::count_records(classes, &mut records);
-    print_pieces(rate, stamps, classes, lengths, &records, order);
+    print_pieces(rate, stamps, classes, lengths, &records, order)
 }
 
 // Some packets at a time, so that a small page holds their lines. No run comes to a moment past the latest (`Latest: in-time` of the
@@ -74,14 +70,14 @@ fn print_pieces<'a>(
     lengths: &'a [u32],
     records: &'a [u32],
     order: &'a [u32],
-)
+) -> Status
     requires { ⌜ Stamped (now stamps) × (length (now classes) < length (now records)) × Recorded (now classes) (now records) ⌝ }
 {
     let mut free = 0;
     let mut from = 0;
     while from < order.len() {
         if MOST_FREE < free {
-            return;
+            return Status::Failed;
         }
         free = print_piece(
             rate,
@@ -94,6 +90,10 @@ fn print_pieces<'a>(
         );
         from += MOST_PACKETS;
     }
+    if MOST_FREE < free {
+        return Status::Failed;
+    }
+    Status::Done
 }
 
 // The packets from this one on, as many as are put at a time.
@@ -133,7 +133,7 @@ fn print_piece<'a>(
         free,
         order,
     );
-    if hand_over(STDOUT_FILENO, &page, put.used) {
+    if files::print(&page, put.used) {
         return put.free;
     }
     u64::MAX

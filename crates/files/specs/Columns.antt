@@ -1,7 +1,7 @@
 -- The columns that a list of events is read into, with the scan as far as it is read.
 use Prim.Native.Nat.{ℕ, _-_}
 use mathlib.Core.Path.{_≡_}
-use mathlib.Core.Bool.{Bool, true, false, cond}
+use mathlib.Core.Bool.{Bool, cond}
 use mathlib.Core.List.{List, [], _∷_}
 use lib.ListN.{set}
 use Rattle.text.specs.declared.Found.{Found}
@@ -9,6 +9,7 @@ use Rattle.text.specs.declared.Found.the-variants.{Nothing, Row, NoEnd, WrongHe
 use Rattle.text.specs.declared.Scan.{Scan}
 use Rattle.text.specs.Reading.{after, at-end, unread, wrong}
 use Rattle.files.specs.declared.Loaded.{Loaded}
+use Rattle.files.specs.declared.Status.the-variants.{Done, Failed}
 
 pub record Columns : Type 0 where
   pub scan : Scan
@@ -49,15 +50,15 @@ pub record Filled (before now : Columns) : Type 0 where
 -- ── what comes of a whole file ──
 
 abbrev pub none : Loaded
-none = record { good = false; rows = 0 }
+none = record { status = Failed; rows = 0 }
 
 -- how many lines of numbers a scan has at the end of the file: all but the heading
 abbrev pub rows-of : Scan → ℕ
 rows-of scan = scan .lines - 1
 
--- a file that was read to its end is good if nothing is wrong with it
+-- a file that was read to its end is done if nothing is wrong with it
 unfoldable pub judged : Scan → Loaded
-judged scan = cond (wrong (at-end scan)) none (record { good = true; rows = rows-of scan })
+judged scan = cond (wrong (at-end scan)) none (record { status = Done; rows = rows-of scan })
 
 -- what loading leaves of two columns and answers: those of some bytes from the start of a file; and of these what they amount to,
 -- unless the file was missing or a read failed

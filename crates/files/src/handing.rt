@@ -1,4 +1,5 @@
 // Handing what is put on a page over to the system.
+use crate::writing::cannot_write;
 use input::Answer;
 use libc::STDOUT_FILENO;
 
@@ -10,9 +11,18 @@ pub fn hand_over(to: i32, page: &[u8], used: usize) -> bool {
     false
 }
 
+// Prints what is used of the page; where it cannot be written, that is said. Answers whether it was written.
+pub fn print(page: &[u8], used: usize) -> bool {
+    if hand_over(STDOUT_FILENO, page, used) {
+        return true;
+    }
+    cannot_write(os::errno());
+    false
+}
+
 // Prints an answer's two lines, and answers whether they were written.
 pub fn print_answer(answer: Answer) -> bool {
     let mut page = [0u8; 512];
     let used = lines::put_answer(&mut page, 0, answer);
-    hand_over(STDOUT_FILENO, &page, used)
+    print(&page, used)
 }

@@ -6,7 +6,9 @@ ghost use lib.ListN.{set, take};
 ghost use Rattle.text.specs.Reading.{unread};
 ghost use Rattle.files.specs.Columns as columns;
 use crate::Loaded;
+use crate::Status;
 use crate::Turn;
+use crate::opening::open;
 use crate::unreadable::cannot_open;
 use crate::unreadable::cannot_read;
 use text::Found;
@@ -34,7 +36,7 @@ fn judged(name: &[u8], end: Turn) -> Loaded
     ensures { λ r. ⌜ r ≡ cond (end .failed) columns.none (columns.judged (end .scan)) ⌝ }
 {
     if end.failed {
-        cannot_open(name);
+        cannot_open(name, end.error);
         return none();
     }
     let scan = end.scan;
@@ -44,7 +46,7 @@ fn judged(name: &[u8], end: Turn) -> Loaded
         return none();
     }
     Loaded {
-        good: true,
+        status: Status::Done,
         rows: one_less(scan.lines),
     }
 }
@@ -53,7 +55,7 @@ pub fn none() -> Loaded
     ensures { λ r. ⌜ r ≡ columns.none ⌝ }
 {
     Loaded {
-        good: false,
+        status: Status::Failed,
         rows: 0,
     }
 }
@@ -69,9 +71,9 @@ fn read_file(name: &[u8], first: &mut [u32], second: &mut [u32]) -> Turn
         (columns.columns-of (r .scan) (now (first .exit)) (now (second .exit))) ⌝ }
 {
     let start = text::begin();
-    let file = os::open_read(name);
+    let file = open(name);
     if file < 0 {
-        return ended(true, start);
+        return ended(true, os::errno(), start);
     }
     let end = read_all(file, start, first, second);
     libc::close(file);
@@ -79,12 +81,13 @@ fn read_file(name: &[u8], first: &mut [u32], second: &mut [u32]) -> Turn
 }
 
 // No more comes.
-fn ended(failed: bool, scan: Scan) -> Turn
-    ensures { λ r. ⌜ r ≡ record { more = false; failed = failed; scan = scan } ⌝ }
+fn ended(failed: bool, error: i32, scan: Scan) -> Turn
+    ensures { λ r. ⌜ r ≡ record { more = false; failed = failed; error = error; scan = scan } ⌝ }
 {
     Turn {
         more: false,
         failed,
+        error,
         scan,
     }
 }
@@ -98,6 +101,7 @@ fn read_all(file: i32, start: Scan, first: &mut [u32], second: &mut [u32]) -> Tu
     let mut turn = Turn {
         more: true,
         failed: false,
+        error: 0,
         scan: start,
     };
     let mut turns = u64::MAX;
@@ -119,13 +123,14 @@ fn read_some(file: i32, scan: Scan, first: &mut [u32], second: &mut [u32]) -> Tu
     let mut buffer = [0u8; 65536];
     let got = libc::read(file, &mut buffer);
     if got <= 0 {
-        return ended(got < 0, scan);
+        return ended(got < 0, os::errno(), scan);
     }
     let n = io::count(got, &buffer);
     let next = read_bytes(scan, &buffer[..n], first, second);
     Turn {
         more: true,
         failed: false,
+        error: 0,
         scan: next,
     }
 }

@@ -4,6 +4,9 @@ ghost use lib.ListN.{take};
 ghost use Rattle.input.specs.Lent.{table-of};
 ghost use Rattle.files.specs.Tables.{LoadsTable};
 use crate::Loaded;
+use crate::Status;
+use crate::ending::begin_refusal;
+use crate::ending::refused;
 use crate::handing::hand_over;
 use crate::handing::print_answer;
 use crate::reading::none;
@@ -12,6 +15,7 @@ use input::Answer;
 use input::Refusal;
 use libc::STDERR_FILENO;
 use sentences::HELD_BYTES;
+use sentences::SENTENCE_BYTES;
 
 // Reads the table that an argument names. Of a text with a fault it prints the answer and, once that is written, says to standard
 // error what to mend. Where the slices have no room for all rows these are counted, and none is kept.
@@ -27,13 +31,14 @@ pub fn load_table(
     let mut text = [0u8; HELD_BYTES];
     let held = load_text(argument, &mut text);
     if held.good {
-        return read_held(&text, held.size, identifiers, parents, shares);
+        return read_held(argument, &text, held.size, identifiers, parents, shares);
     }
     none()
 }
 
-// The rows of a text of so many bytes, of which these were read.
+// The rows of a text of so many bytes, of which these were read from the file that an argument names.
 fn read_held(
+    argument: usize,
     text: &[u8],
     size: usize,
     identifiers: &mut [u32],
@@ -47,33 +52,39 @@ fn read_held(
     let fault = read.fault;
     if fault.number == 0 {
         return Loaded {
-            good: true,
+            status: Status::Done,
             rows: read.rows,
         };
     }
-    tell(fault, text, size);
-    none()
+    let written = tell(argument, fault, text, size);
+    Loaded {
+        status: refused(written),
+        rows: 0,
+    }
 }
 
-// The fault of such a text.
-fn tell(fault: Refusal, text: &[u8], size: usize) {
+// The fault of such a text; answers whether its answer was written.
+fn tell(argument: usize, fault: Refusal, text: &[u8], size: usize) -> bool {
     let answer = Answer {
         number: fault.number,
         place: fault.place,
         second: fault.second,
         count: 0,
     };
-    if print_answer(answer) {
-        let mut page = [0u8; 1024];
-        let used = sentences::fault_sentence(
-            &mut page,
-            0,
-            fault.number,
-            fault.place,
-            held(text, size),
-        );
-        hand_over(STDERR_FILENO, &page, used);
+    if !print_answer(answer) {
+        return false;
     }
+    let mut page = [0u8; SENTENCE_BYTES];
+    let used = begin_refusal(&mut page, fault.number, argument);
+    let used = sentences::fault_sentence(
+        &mut page,
+        used,
+        fault.number,
+        fault.place,
+        held(text, size),
+    );
+    hand_over(STDERR_FILENO, &page, used);
+    true
 }
 
 // The first bytes, or all where there are no more.

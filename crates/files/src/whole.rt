@@ -4,6 +4,7 @@ ghost use Prim.Native.Nat.{suc, _-_, _^_, _<_, _≤_};
 ghost use lib.ListN.{length};
 use crate::Held;
 use crate::Part;
+use crate::opening::open;
 use crate::unreadable::cannot_open;
 use crate::unreadable::too_long;
 
@@ -36,6 +37,7 @@ fn load_all(name: &[u8], capture: &mut [u8]) -> Held
     too_long(name, capture.len());
     Held {
         good: false,
+        error: 0,
         size: 0,
     }
 }
@@ -45,7 +47,7 @@ fn load_named(name: &[u8], text: &mut [u8]) -> Held
 {
     let held = read_file(name, text);
     if !held.good {
-        cannot_open(name);
+        cannot_open(name, held.error);
     }
     held
 }
@@ -53,10 +55,11 @@ fn load_named(name: &[u8], text: &mut [u8]) -> Held
 fn read_file(name: &[u8], text: &mut [u8]) -> Held
     ensures { λ r. ⌜ Holds (now (text .entry)) (now (text .exit)) r ⌝ }
 {
-    let file = os::open_read(name);
+    let file = open(name);
     if file < 0 {
         return Held {
             good: false,
+            error: os::errno(),
             size: 0,
         };
     }
@@ -75,6 +78,7 @@ fn read_all(file: i32, text: &mut [u8]) -> Held
         if part.size == 0 {
             return Held {
                 good: !part.failed,
+                error: part.error,
                 size: used,
             };
         }
@@ -92,6 +96,7 @@ fn read_past(file: i32, used: usize) -> Held
     let part = read_part(file, &mut more);
     Held {
         good: !part.failed,
+        error: part.error,
         size: used + part.size,
     }
 }
@@ -102,6 +107,7 @@ fn read_part(file: i32, bytes: &mut [u8]) -> Part
     let got = libc::read(file, bytes);
     Part {
         failed: got < 0,
+        error: os::errno(),
         size: io::count(got, bytes),
     }
 }

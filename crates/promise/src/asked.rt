@@ -1,10 +1,11 @@
 // What the arguments ask for: the largest packet, the class's own bytes and the packets finished, or what is wrong with them.
 ghost use mathlib.Core.Path.{_≡_};
 ghost use Rattle.promise.specs.Arguments as arguments;
+use files::Status;
 use files::hand_over;
 use input::LEAST_BYTES;
 use input::MOST_BYTES;
-use libc::STDOUT_FILENO;
+use libc::STDERR_FILENO;
 use output::put_byte;
 use output::put_named;
 use output::put_text;
@@ -77,12 +78,13 @@ fn from_packets(largest: u32, own: u32, packets: Field) -> Asked
 }
 
 // Says what is wrong, where something is.
-pub fn complain(asked: Asked) {
+pub fn complain(asked: Asked) -> Status {
     let mut page = [0u8; 256];
     let used = put_text(&mut page, 0, b"cannot read ");
     let used = put_fault(&mut page, used, asked);
     let used = put_byte(&mut page, used, 10);
-    hand_over(STDOUT_FILENO, &page, used);
+    hand_over(STDERR_FILENO, &page, used);
+    Status::Failed
 }
 
 fn put_fault(page: &mut [u8], used: usize, asked: Asked) -> usize {

@@ -2,14 +2,13 @@
 ghost use mathlib.Core.Path.{_≡_};
 ghost use Prim.Native.Nat.{_*_};
 ghost use Rattle.input.specs.Limits.{packets-a-step};
-use files::hand_over;
+use files::Status;
 use input::MOST_ROWS;
 use input::PACKETS_A_STEP;
 use input::RowMarks;
 use input::SCALE;
 use input::TICKS;
 use input::WHOLE;
-use libc::STDOUT_FILENO;
 use output::put_byte;
 use output::put_named;
 use output::put_number;
@@ -20,7 +19,7 @@ use words::word;
 // Room for a sheet of all rows: no class has more than eight steps, and none takes more than 2,048 bytes.
 const SHEET_BYTES: usize = 2048 * MOST_ROWS;
 
-// Prints the sheet of each sending class, in row order.
+// Prints the sheet of each sending class, in row order, and answers how that ended.
 pub fn print<'a>(
     largest: u32,
     own: u32,
@@ -30,7 +29,7 @@ pub fn print<'a>(
     depths: &'a [u32],
     shares: &'a [u32],
     senders: &'a RowMarks,
-) {
+) -> Status {
     let mut page = [0u8; SHEET_BYTES];
     let used = put_sheet(
         &mut page,
@@ -43,7 +42,11 @@ pub fn print<'a>(
         shares,
         senders,
     );
-    hand_over(STDOUT_FILENO, &page, used);
+    if files::print(&page, used) {
+        Status::Done
+    } else {
+        Status::Failed
+    }
 }
 
 fn put_sheet<'a>(

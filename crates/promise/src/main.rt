@@ -1,11 +1,15 @@
 // promise TABLE LARGEST [OWN [PACKETS]]: reads a class table and prints, for each sending class, the sheet of its share: step by step up
 // the tree, what the line can finish at most while the class finishes OWN bytes and no class on its way more than PACKETS packets, in a
-// day whose largest packet has LARGEST bytes. Or it says what cannot be read, or, to standard error, what a refusal names and how to
-// mend it.
+// day whose largest packet has LARGEST bytes. To standard error it says what cannot be read or written, or what a refusal names and how
+// to mend it.
 mod asked;
 mod lines;
 
 use asked::Asked;
+use files::Status;
+use files::begin_refusal;
+use files::complain;
+use files::end_with;
 use files::first;
 use files::hand_over;
 use files::load_table;
@@ -14,19 +18,22 @@ use input::Answer;
 use input::MOST_EVENTS;
 use input::Refusal;
 use libc::STDERR_FILENO;
-use libc::STDOUT_FILENO;
 use sentences::HELD_ROWS;
+use sentences::SENTENCE_BYTES;
 use text::Field;
 
 fn main() {
+    end_with(called());
+}
+
+// Looks at the call and goes on.
+fn called() -> Status {
     let count = os::arg_count();
     if count < 3 {
-        usage();
-        return;
+        return usage();
     }
     if 5 < count {
-        usage();
-        return;
+        return usage();
     }
     let largest = argument(2);
     let own = if 3 < count { argument(3) } else { largest };
@@ -41,17 +48,15 @@ fn main() {
         own,
         packets,
     } = asked {
-        with_numbers(largest, own, packets);
-        return;
+        return with_numbers(largest, own, packets);
     }
-    asked::complain(asked);
+    asked::complain(asked)
 }
 
-fn usage() {
-    io::write_all(
-        STDOUT_FILENO,
+fn usage() -> Status {
+    complain(
         b"cannot read: give a class table and the largest packet, promise TABLE LARGEST [OWN [PACKETS]]\n",
-    );
+    )
 }
 
 // An argument as a number. The longest that the system passes has 131,071 bytes.
@@ -62,13 +67,14 @@ fn argument(place: usize) -> Field {
 }
 
 // Reads the table and goes on.
-fn with_numbers(largest: u32, own: u32, packets: u32) {
+fn with_numbers(largest: u32, own: u32, packets: u32) -> Status {
     let mut identifiers = [0u32; HELD_ROWS];
     let mut parents = [0u32; HELD_ROWS];
     let mut shares = [0u32; HELD_ROWS];
     let table = load_table(1, &mut identifiers, &mut parents, &mut shares);
-    if table.good {
-        with_table(
+    let status = table.status;
+    if let Status::Done = status {
+        return with_table(
             largest,
             own,
             packets,
@@ -78,6 +84,7 @@ fn with_numbers(largest: u32, own: u32, packets: u32) {
             first(&shares, table.rows),
         );
     }
+    status
 }
 
 // Checks the table, and prints the sheet or why there is none. The count of rows is that of the file, of which the slices may have
@@ -90,12 +97,11 @@ fn with_table<'a>(
     identifiers: &'a [u32],
     parents: &'a [u32],
     shares: &'a [u32],
-) {
+) -> Status {
     let reading = tables::read_table(identifiers, parents, shares);
     let refusal = reading.refusal;
     if refusal.number != 0 {
-        refused(refusal, rows, identifiers, parents, shares);
-        return;
+        return refused(refusal, rows, identifiers, parents, shares);
     }
     let above = reading.parents;
     let depths = reading.depths;
@@ -110,7 +116,7 @@ fn with_table<'a>(
         &depths,
         &parts,
         &senders,
-    );
+    )
 }
 
 // The answer of a run with this table and, once that is written, the refusal as a sentence to standard error.
@@ -120,24 +126,27 @@ fn refused<'a>(
     identifiers: &'a [u32],
     parents: &'a [u32],
     shares: &'a [u32],
-) {
+) -> Status {
     let answer = Answer {
         number: refusal.number,
         place: refusal.place,
         second: refusal.second,
         count: 0,
     };
-    if print_answer(answer) {
-        let mut page = [0u8; 1024];
-        let used = sentences::table_sentence(
-            &mut page,
-            0,
-            answer,
-            rows,
-            identifiers,
-            parents,
-            shares,
-        );
-        hand_over(STDERR_FILENO, &page, used);
+    if !print_answer(answer) {
+        return Status::Failed;
     }
+    let mut page = [0u8; SENTENCE_BYTES];
+    let used = begin_refusal(&mut page, answer.number, 1);
+    let used = sentences::table_sentence(
+        &mut page,
+        used,
+        answer,
+        rows,
+        identifiers,
+        parents,
+        shares,
+    );
+    hand_over(STDERR_FILENO, &page, used);
+    Status::Refused
 }

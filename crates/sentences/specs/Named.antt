@@ -1,9 +1,9 @@
 -- What a sentence looks up in a table or in its text.
 use Prim.Native.Nat.{ℕ, zero, suc, _+_}
-use mathlib.Core.Bool.{Bool, true, false, cond}
+use mathlib.Core.Bool.{Bool, true, false, cond, not, _&&_}
 use mathlib.Core.List.{List}
 use lib.Dec.{ltb, eqb}
-use lib.ListN.{getD}
+use lib.ListN.{length, getD, take}
 use Rattle.input.specs.Limits.{most-rows}
 use Rattle.input.specs.Classes.{place-of}
 use Rattle.forms.specs.declared.Place.{Place}
@@ -14,15 +14,27 @@ unfoldable pub row-with : ℕ → List ℕ → ℕ
 row-with identifier identifiers =
     let row = place-of identifier identifiers in cond (ltb row most-rows) row 0
 
--- the share of a row if its parent has this identifier
-abbrev pub share-under : ℕ → ℕ → ℕ → ℕ
-share-under identifier parent share = cond (eqb parent identifier) share 0
+-- whether a row looks like a class and not like the line
+unfoldable pub as-a-class : ℕ → ℕ → Bool
+as-a-class parent share = not (eqb parent 0) && not (eqb share 0)
 
--- the shares of the first rows whose parent has this identifier, added up
-unfoldable pub shares-under : ℕ → List ℕ → List ℕ → ℕ → ℕ
-shares-under identifier parents shares zero = 0
-shares-under identifier parents shares (suc row) =
-    shares-under identifier parents shares row + share-under identifier (getD parents row 0) (getD shares row 0)
+-- the first row above this one that has its parent's identifier; the row itself where there is none
+unfoldable pub parent-row : ℕ → List ℕ → ℕ → ℕ
+parent-row row identifiers parent = cond (ltb (length identifiers) row) row (place-of parent (take row identifiers))
+
+-- whether a row, whose parent has this identifier, is a child of a row above it
+unfoldable pub child-of : ℕ → ℕ → List ℕ → ℕ → Bool
+child-of row child identifiers parent = ltb row child && eqb (parent-row child identifiers parent) row
+
+abbrev pub share-under : ℕ → ℕ → List ℕ → ℕ → ℕ → ℕ
+share-under row child identifiers parent share = cond (child-of row child identifiers parent) share 0
+
+-- the shares of a row's children among the first rows, added up
+unfoldable pub shares-under : ℕ → List ℕ → List ℕ → List ℕ → ℕ → ℕ
+shares-under row identifiers parents shares zero = 0
+shares-under row identifiers parents shares (suc child) =
+    shares-under row identifiers parents shares child
+    + share-under row child identifiers (getD parents child 0) (getD shares child 0)
 
 -- a scan stands behind a fault
 unfoldable pub faulty : Place → Bool

@@ -1,4 +1,4 @@
-// A fault of a table's text as one sentence for a person: the line, what was found there, and what to mend.
+// What a sentence says of a fault of a table's text, after its number and its file: the line, what was found there, and what to mend.
 ghost use mathlib.Core.Path.{_≡_};
 ghost use lib.ListN.{getD, take};
 ghost use Rattle.forms.specs.Faults.{read-text};
@@ -28,7 +28,7 @@ pub fn fault_sentence(page: &mut [u8], used: usize, number: u32, line: u32, text
         40 => fill(
             page,
             used,
-            b"refused 40: the text has more than # bytes; no table has more than #: give it # to # rows.\n",
+            b"the text has more than # bytes; no table has more than #: give it # to # rows.\n",
             &[
                 HELD_BYTES as u64,
                 MOST_TABLE_BYTES as u64,
@@ -46,13 +46,13 @@ fn cut_off(page: &mut [u8], used: usize, line: u64, text: &[u8]) -> usize {
         return put_text(
             page,
             used,
-            b"refused 47: the text is empty; begin it with the heading identifier,parent,share.\n",
+            b"the text is empty; begin it with the heading identifier,parent,share.\n",
         );
     }
     fill(
         page,
         used,
-        b"refused 47: the text ends inside line #; end it with CR LF, and see that no line is missing.\n",
+        b"the text ends inside line #; end it with CR LF, and see that no line is missing.\n",
         &[line],
     )
 }
@@ -70,13 +70,13 @@ fn at_byte(page: &mut [u8], used: usize, number: u32, line: u64, text: &[u8]) ->
         43 => fill(
             page,
             used,
-            b"refused 43: line # has a leading zero in field #; take it out.\n",
+            b"line # has a leading zero in field #; take it out.\n",
             &[line, at],
         ),
         44 => fill(
             page,
             used,
-            b"refused 44: line # has a number over # in field #; identifiers go up to # and shares up to #.\n",
+            b"line # has a number over # in field #; identifiers go up to # and shares up to #.\n",
             &[
                 line,
                 u32::MAX as u64,
@@ -149,17 +149,13 @@ fn in_heading(page: &mut [u8], used: usize, at: u64, text: &[u8], byte: u8) -> u
         return put_text(
             page,
             used,
-            b"refused 41: line 1 begins with a byte order mark; save the file without one.\n",
+            b"line 1 begins with a byte order mark; save the file without one.\n",
         );
     }
     if wide_characters(text, byte) {
-        return put_text(
-            page,
-            used,
-            b"refused 41: line 1 is UTF-16; save the file as UTF-8.\n",
-        );
+        return put_text(page, used, b"line 1 is UTF-16; save the file as UTF-8.\n");
     }
-    let used = put_text(page, used, b"refused 41: line 1 has ");
+    let used = put_text(page, used, b"line 1 has ");
     let used = put_found(page, used, byte);
     let used = fill(
         page,
@@ -210,24 +206,19 @@ fn in_field(page: &mut [u8], used: usize, line: u64, field: u64, byte: u8) -> us
 fn empty(page: &mut [u8], used: usize, line: u64, field: u64, byte: u8) -> usize {
     if field == 1 {
         if byte != 44 {
-            return fill(
-                page,
-                used,
-                b"refused 42: line # is empty; take it out.\n",
-                &[line],
-            );
+            return fill(page, used, b"line # is empty; take it out.\n", &[line]);
         }
     }
     fill(
         page,
         used,
-        b"refused 42: line # has nothing in field #; give it a number, or take the line out.\n",
+        b"line # has nothing in field #; give it a number, or take the line out.\n",
         &[line, field],
     )
 }
 
 fn no_digit(page: &mut [u8], used: usize, line: u64, field: u64, byte: u8) -> usize {
-    let used = fill(page, used, b"refused 42: line # has ", &[line]);
+    let used = fill(page, used, b"line # has ", &[line]);
     let used = put_found(page, used, byte);
     let used = fill(page, used, b" in field #; ", &[field]);
     let used = put_number_mend(page, used, byte);
@@ -240,14 +231,14 @@ fn wrong_count(page: &mut [u8], used: usize, line: u64, field: u64, byte: u8) ->
         return fill(
             page,
             used,
-            b"refused 45: line # has more than three fields; give it three: identifier, parent and share.\n",
+            b"line # has more than three fields; give it three: identifier, parent and share.\n",
             &[line],
         );
     }
     fill(
         page,
         used,
-        b"refused 45: line # ends after field #; give it three: identifier, parent and share.\n",
+        b"line # ends after field #; give it three: identifier, parent and share.\n",
         &[line, field],
     )
 }
@@ -258,14 +249,14 @@ fn wrong_end(page: &mut [u8], used: usize, line: u64, byte: u8) -> usize {
         return fill(
             page,
             used,
-            b"refused 46: line # ends in LF alone; lines end in CR LF: save it with Windows line ends, or put it through unix2dos.\n",
+            b"line # ends in LF alone; lines end in CR LF: save it with Windows line ends, or put it through unix2dos.\n",
             &[line],
         );
     }
     fill(
         page,
         used,
-        b"refused 46: line # has CR with no LF after it; a line ends in one CR and one LF: save it with Windows line ends.\n",
+        b"line # has CR with no LF after it; a line ends in one CR and one LF: save it with Windows line ends.\n",
         &[line],
     )
 }

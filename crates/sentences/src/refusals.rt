@@ -1,9 +1,10 @@
-// A refusal as one sentence for a person: where it is and what to mend.
+// What a sentence says of a refusal, after its number and its file: where it is and what to mend.
 ghost use mathlib.Core.Path.{_≡_};
-ghost use Prim.Native.Nat.{suc, _+_, _<_, _^_};
-ghost use Rattle.input.specs.Limits.{most-rows};
+ghost use Prim.Native.Nat.{_+_};
 ghost use Rattle.sentences.specs.Named as named;
-use crate::HELD_ROWS;
+use crate::children::children_share;
+use crate::children::depth_of;
+use crate::children::put_children;
 use crate::templates::fill;
 use input::Answer;
 use input::LEAST_BYTES;
@@ -20,7 +21,7 @@ use output::put_text;
 use words::long;
 use words::word;
 
-// A refusal of a run.
+// Of a run.
 pub fn sentence<'a>(
     page: &mut [u8],
     used: usize,
@@ -38,20 +39,16 @@ pub fn sentence<'a>(
         2 => fill(
             page,
             used,
-            b"refused 2: the list has # events; give it at most #.\n",
+            b"the list has # events; give it at most #.\n",
             &[events, MOST_EVENTS as u64],
         ),
-        3 => put_text(
-            page,
-            used,
-            b"refused 3: a slice lent for the results is too short.\n",
-        ),
+        3 => put_text(page, used, b"a slice lent for the results is too short.\n"),
         11..=14 => of_event(page, used, answer, identifiers, classes, lengths),
         _ => table_sentence(page, used, answer, rows, identifiers, parents, shares),
     }
 }
 
-// A refusal of a class table alone.
+// Of a class table alone.
 pub fn table_sentence<'a>(
     page: &mut [u8],
     used: usize,
@@ -76,14 +73,14 @@ fn of_rows(page: &mut [u8], used: usize, rows: u64) -> usize {
         return fill(
             page,
             used,
-            b"refused 1: the table has 1 row; give it # to #.\n",
+            b"the table has 1 row; give it # to #.\n",
             &[LEAST_ROWS as u64, MOST_ROWS as u64],
         );
     }
     fill(
         page,
         used,
-        b"refused 1: the table has # rows; give it # to #.\n",
+        b"the table has # rows; give it # to #.\n",
         &[rows, LEAST_ROWS as u64, MOST_ROWS as u64],
     )
 }
@@ -99,19 +96,19 @@ fn of_identifier(page: &mut [u8], used: usize, answer: Answer, identifiers: &[u3
         4 => fill(
             page,
             used,
-            b"refused 4: row # (line #) has identifier 0; give it a number from 1 to #.\n",
+            b"row # (line #) has identifier 0; give it a number from 1 to #.\n",
             &[row, line, MOST_IDENTIFIER as u64],
         ),
         5 => fill(
             page,
             used,
-            b"refused 5: row # (line #) repeats identifier # of row # (line #); give one of the two another identifier.\n",
+            b"row # (line #) repeats identifier # of row # (line #); give one of the two another identifier.\n",
             &[row, line, long(identifier), earlier, line_of(answer.second)],
         ),
         15 => fill(
             page,
             used,
-            b"refused 15: row # (line #) has identifier #, which the modem cuts to its low 16 bits, #; give it a number from 1 to #.\n",
+            b"row # (line #) has identifier #, which the modem cuts to its low 16 bits, #; give it a number from 1 to #.\n",
             &[
                 row,
                 line,
@@ -124,6 +121,7 @@ fn of_identifier(page: &mut [u8], used: usize, answer: Answer, identifiers: &[u3
     }
 }
 
+// 6, and what is likely meant where the row looks like a class.
 fn of_root<'a>(
     page: &mut [u8],
     used: usize,
@@ -131,16 +129,33 @@ fn of_root<'a>(
     parents: &'a [u32],
     shares: &'a [u32],
 ) -> usize {
+    let identifier = long(word(identifiers, 0));
+    let parent = long(word(parents, 0));
+    let share = long(word(shares, 0));
+    if as_a_class(parent, share) {
+        return fill(
+            page,
+            used,
+            b"row 0 (line 2), class #, has parent # and share #, as a class does; the line's own row comes first: put it above, with parent 0 and share 0.\n",
+            &[identifier, parent, share],
+        );
+    }
     fill(
         page,
         used,
-        b"refused 6: row 0 (line 2), class #, is the line itself and has parent # and share #; set both to 0.\n",
-        &[
-            long(word(identifiers, 0)),
-            long(word(parents, 0)),
-            long(word(shares, 0)),
-        ],
+        b"row 0 (line 2), class #, is the line itself and has parent # and share #; set both to 0.\n",
+        &[identifier, parent, share],
     )
+}
+
+// Whether a row looks like a class and not like the line.
+fn as_a_class(parent: u64, share: u64) -> bool
+    ensures { λ r. ⌜ r ≡ named.as-a-class parent share ⌝ }
+{
+    if parent == 0 {
+        return false;
+    }
+    share != 0
 }
 
 // 7 and 8: the parent and the share of a class.
@@ -160,13 +175,13 @@ fn of_class<'a>(
         7 => fill(
             page,
             used,
-            b"refused 7: row # (line #), class #, has parent #, which is no earlier row's identifier; name the identifier of a row above it.\n",
+            b"row # (line #), class #, has parent #, which is no earlier row's identifier; name the identifier of a row above it.\n",
             &[row, line, long(class), long(word(parents, answer.place))],
         ),
         8 => fill(
             page,
             used,
-            b"refused 8: row # (line #), class #, has share #; give it a share from # to #.\n",
+            b"row # (line #), class #, has share #; give it a share from # to #.\n",
             &[
                 row,
                 line,
@@ -180,7 +195,7 @@ fn of_class<'a>(
     }
 }
 
-// 9 and 10: a class too deep, the first of which is just one below the deepest allowed, and children with too much.
+// 9 and 10: a class too deep, and children with too much.
 fn of_depth<'a>(
     page: &mut [u8],
     used: usize,
@@ -197,52 +212,42 @@ fn of_depth<'a>(
         9 => fill(
             page,
             used,
-            b"refused 9: row # (line #), class #, has depth #; put it under a class of depth # or less.\n",
+            b"row # (line #), class #, has depth #; put it under a class of depth # or less.\n",
             &[
                 row,
                 line,
                 long(class),
-                MOST_DEPTH as u64 + 1,
+                depth_of(answer.place, identifiers, parents),
                 MOST_DEPTH as u64 - 1,
             ],
         ),
-        10 => fill(
-            page,
-            used,
-            b"refused 10: the children of row # (line #), class #, have shares that add up to #; bring them to # or less.\n",
-            &[
-                row,
-                line,
-                long(class),
-                children_share(class, parents, shares),
-                WHOLE as u64,
-            ],
-        ),
+        10 => of_children(page, used, answer.place, identifiers, parents, shares),
         _ => used,
     }
 }
 
-// The shares of the rows with this parent together.
-fn children_share(identifier: u32, parents: &[u32], shares: &[u32]) -> u64
-    ensures { λ r. ⌜ r ≡ named.shares-under identifier (now (parents .entry)) (now (shares .entry)) (suc most-rows) ⌝ }
-{
-    let mut sum = 0;
-    let mut row = 0;
-    while row < HELD_ROWS as u32 {
-        sum += share_under(identifier, word(parents, row), word(shares, row));
-        row += 1;
-    }
-    sum
-}
-
-fn share_under(identifier: u32, parent: u32, share: u32) -> u64
-    ensures { λ r. ⌜ (r ≡ named.share-under identifier parent share) × (r < 2 ^ 32) ⌝ }
-{
-    if parent == identifier {
-        share as u64
-    } else {
-        0
-    }
+// 10: the children with their shares, and what these come to.
+fn of_children<'a>(
+    page: &mut [u8],
+    used: usize,
+    row: u32,
+    identifiers: &'a [u32],
+    parents: &'a [u32],
+    shares: &'a [u32],
+) -> usize {
+    let used = fill(
+        page,
+        used,
+        b"the children of row # (line #), class #, have shares that add up to #",
+        &[
+            long(row),
+            line_of(row),
+            long(word(identifiers, row)),
+            children_share(row, identifiers, parents, shares),
+        ],
+    );
+    let used = put_children(page, used, row, identifiers, parents, shares);
+    fill(page, used, b"; bring them to # or less.\n", &[WHOLE as u64])
 }
 
 // 11 to 14.
@@ -261,7 +266,7 @@ fn of_event<'a>(
         11 => fill(
             page,
             used,
-            b"refused 11: event # (line #) is for class #, which no row has; name a class of the table.\n",
+            b"event # (line #) is for class #, which no row has; name a class of the table.\n",
             &[long(event), line_of(event), long(class)],
         ),
         12 => not_sending(page, used, event, class, row_with(identifiers, class)),
@@ -269,7 +274,7 @@ fn of_event<'a>(
         14 => fill(
             page,
             used,
-            b"refused 14: event # (line #) is a finish while the line is idle; take it out or put an arrival before it.\n",
+            b"event # (line #) is a finish while the line is idle; take it out or put an arrival before it.\n",
             &[long(event), line_of(event)],
         ),
         _ => used,
@@ -293,14 +298,14 @@ fn not_sending(page: &mut [u8], used: usize, event: u32, class: u32, row: u32) -
         return fill(
             page,
             used,
-            b"refused 12: event # (line #) is for class #, row 0 (line 2), which is the line itself; name a class with no class below it.\n",
+            b"event # (line #) is for class #, row 0 (line 2), which is the line itself; name a class with no class below it.\n",
             &[long(event), line_of(event), long(class)],
         );
     }
     fill(
         page,
         used,
-        b"refused 12: event # (line #) is for class #, row # (line #), which has classes below it; name a class with no class below it.\n",
+        b"event # (line #) is for class #, row # (line #), which has classes below it; name a class with no class below it.\n",
         &[
             long(event),
             line_of(event),
@@ -316,14 +321,14 @@ fn of_length(page: &mut [u8], used: usize, event: u32, class: u32, length: u32) 
         return fill(
             page,
             used,
-            b"refused 13: event # (line #) is a finish with length #; a finish has length 0.\n",
+            b"event # (line #) is a finish with length #; a finish has length 0.\n",
             &[long(event), line_of(event), long(length)],
         );
     }
     fill(
         page,
         used,
-        b"refused 13: event # (line #), for class #, has length #; a packet has # to # bytes.\n",
+        b"event # (line #), for class #, has length #; a packet has # to # bytes.\n",
         &[
             long(event),
             line_of(event),

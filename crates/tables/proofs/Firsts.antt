@@ -60,7 +60,7 @@ doubled-plain : (r other : ℕ) → Plain (doubled r other)
 unfolding doubled
 doubled-plain r other = test-plain (ltb other r) 5 r other (omega arith)
 
-row-plain : (table : Table) (r : ℕ) → Plain (row-refused table r)
+pub row-plain : (table : Table) (r : ℕ) → Plain (row-refused table r)
 unfolding row-refused root-refused class-refused first
 row-plain table zero =
     or-else-plain (given _ 4 0) _ (given-plain _ 4 0 (omega arith))

@@ -21,13 +21,21 @@ use Rattle.laws.proofs.event.Outset.{zeros-at}
 use Rattle.tables.specs.declared.Row.{Row}
 use Rattle.tables.specs.declared.Rows.{Rows}
 use Rattle.tables.specs.Sized.{Sized}
-use Rattle.tables.specs.Answers.{row-read, rows-read}
+use Rattle.tables.specs.Answers.{row-read, below, rows-read}
 
 abbrev row-of : Refusal → ℕ → ℕ → Row
 row-of refusal parent depth = record { refusal = refusal; parent = parent; depth = depth }
 
-abbrev pub rows-of : Refusal → List ℕ → List ℕ → List ℕ → Rows
-rows-of refusal parents depths shares = record { refusal = refusal; parents = parents; depths = depths; shares = shares }
+abbrev pub rows-of : Refusal → List ℕ → List ℕ → List ℕ → List ℕ → List ℕ → Rows
+rows-of refusal numbers seconds parents depths shares =
+    record {
+      refusal = refusal;
+      numbers = numbers;
+      seconds = seconds;
+      parents = parents;
+      depths = depths;
+      shares = shares;
+    }
 
 -- a depth is at most the number of rows that are read
 pub depth-small : (table : Table) (n j : ℕ) → n ≤ most-rows → depth (read table n) j ≤ n
@@ -73,8 +81,8 @@ module _ (table : Table) (sized : Sized table) where
 
   -- one row more
   pub rows-more : (r : ℕ) → r < length (table .identifiers) → (rows : Rows) (row : Row) → rows ≡ rows-read table r → row ≡ row-read table r
-      → rows-of (or-else (rows .refusal) (row .refusal)) (set (rows .parents) r (row .parent)) (set (rows .depths) r (row .depth))
-      (set (rows .shares) r (getD (table .shares) r 0))
+      → rows-of (or-else (rows .refusal) (row .refusal)) (set (rows .numbers) r (row .refusal .number)) (set (rows .seconds) r (row .refusal .second))
+      (set (rows .parents) r (row .parent)) (set (rows .depths) r (row .depth)) (set (rows .shares) r (getD (table .shares) r 0))
       ≡ rows-read table (suc r)
-  unfolding rows-read row-read first-below read with-row depth-read
+  unfolding rows-read row-read first-below below read with-row depth-read
   rows-more r inside rows row eRows eRow = rw (eRows, eRow, depth-found r inside) refl

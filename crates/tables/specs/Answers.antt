@@ -19,11 +19,18 @@ refusal-of number place second = record { number = number; place = place; second
 unfoldable pub row-read : Table → ℕ → Row
 row-read table r = record { refusal = row-refused table r; parent = parent-of table r; depth = depth (tree-of table) r }
 
+-- a number for each row below n; 0 from n on
+unfoldable pub below : (ℕ → ℕ) → ℕ → List ℕ
+below at zero = zeros
+below at (suc r) = set (below at r) r (at r)
+
 -- the first n rows, read
 unfoldable pub rows-read : Table → ℕ → Rows
 rows-read table n =
     record {
       refusal = first-below (row-refused table) n;
+      numbers = below (λ (r : ℕ). row-refused table r .number) n;
+      seconds = below (λ (r : ℕ). row-refused table r .second) n;
       parents = read table n .parents;
       depths = read table n .depths;
       shares = read table n .shares;

@@ -1,5 +1,5 @@
 // Reading a class table: what refuses it, row by row, and the tree that it is. It writes nothing that is lent. `read_table` and
-// `row_of` are for all; what else is public is for the crate `checks` alone.
+// `row_of` are for all; what else is public is for the crates `checks` and `refusals` alone.
 ghost use mathlib.Core.Path.{_≡_};
 ghost use mathlib.Core.Bool.{cond};
 ghost use Prim.Native.Nat.{_≤_, _<_, _^_};
@@ -29,12 +29,15 @@ struct Row {
     depth: u32,
 }
 
-// All rows as they are read.
-struct Rows {
-    refusal: Refusal,
-    parents: RowWords,
-    depths: RowWords,
-    shares: RowWords,
+// All rows as they are read: the first refusal, and of each row the number that refuses it, which is 0 where none does, the second place of
+// that, the parent's row, the depth and the share.
+pub struct Rows {
+    pub refusal: Refusal,
+    pub numbers: RowWords,
+    pub seconds: RowWords,
+    pub parents: RowWords,
+    pub depths: RowWords,
+    pub shares: RowWords,
 }
 
 // What a check answers: the first refusal, and where there is none the table as it was read, with the rows that are sending classes.
@@ -212,18 +215,23 @@ fn read_row(
 }
 
 // All rows, one after the other.
-fn read_rows(identifiers: &[u32], parent_identifiers: &[u32], shares: &[u32]) -> Rows
+pub fn read_rows(identifiers: &[u32], parent_identifiers: &[u32], shares: &[u32]) -> Rows
     requires { ⌜ Sized (table-of (now identifiers) (now «parent_identifiers») (now shares)) ⌝ }
     ensures { λ rows. ⌜ rows ≡ rows-read (table-of (now (identifiers .entry)) (now («parent_identifiers» .entry)) (now (shares .entry))) (length (now (identifiers .entry))) ⌝ }
 {
     let mut refusal = none();
+    let mut numbers = [0u32; MOST_ROWS];
+    let mut seconds = [0u32; MOST_ROWS];
     let mut parents = [0u32; MOST_ROWS];
     let mut depths = [0u32; MOST_ROWS];
     let mut parts = [0u32; MOST_ROWS];
     let mut r = 0;
     while r < identifiers.len() {
         let row = read_row(identifiers, parent_identifiers, shares, &depths, r);
-        refusal = or_else(refusal, row.refusal);
+        let own = row.refusal;
+        refusal = or_else(refusal, own);
+        numbers[r] = own.number;
+        seconds[r] = own.second;
         parents[r] = row.parent;
         depths[r] = row.depth;
         parts[r] = shares[r];
@@ -231,6 +239,8 @@ fn read_rows(identifiers: &[u32], parent_identifiers: &[u32], shares: &[u32]) ->
     }
     Rows {
         refusal,
+        numbers,
+        seconds,
         parents,
         depths,
         shares: parts,
@@ -249,7 +259,7 @@ fn child(parents: &RowWords, p: usize, r: usize) -> bool
 }
 
 // The share of row r if it is a child of row p.
-fn child_share(parents: &RowWords, shares: &RowWords, p: usize, r: usize) -> usize
+pub fn child_share(parents: &RowWords, shares: &RowWords, p: usize, r: usize) -> usize
     requires { ⌜ r < most-rows ⌝ }
     ensures { λ s. ⌜ (s < 2 ^ 32) × ((tree : Tree) → tree .parents ≡ now (parents .entry) → tree .shares ≡ now (shares .entry)
         → s ≡ cond (child tree p r) (share tree r) 0) ⌝ }

@@ -10,23 +10,23 @@ use Rattle.input.specs.Classes.{zeros, read}
 use Rattle.input.specs.Refusals.{first-below}
 use Rattle.tables.specs.declared.Rows.{Rows}
 use Rattle.input.specs.Lent.{table-of}
-use Rattle.tables.specs.Answers.{rows-read}
+use Rattle.tables.specs.Answers.{below, rows-read}
 use Rattle.tables.proofs.OneRow.{rows-of, rows-more}
 use Rattle.tables.proofs.read_rows.Statement.{statement}
 use Rattle.tables.proofs.read_rows.Tie as tie
 
 abbrev Inv-loop : tie.InvT-loop
-Inv-loop identifiers parent-identifiers shares refusal₀ parents₀ depths₀ parts₀ r₀ refusal parents depths parts r =
-    (r ≤ length identifiers) × (rows-of refusal parents depths parts ≡ rows-read (table-of identifiers parent-identifiers shares) r)
+Inv-loop identifiers parent-identifiers shares refusal₀ numbers₀ seconds₀ parents₀ depths₀ parts₀ r₀ refusal numbers seconds parents depths parts r =
+    (r ≤ length identifiers) × (rows-of refusal numbers seconds parents depths parts ≡ rows-read (table-of identifiers parent-identifiers shares) r)
 
 abbrev μ-loop : tie.MeasureT-loop
-μ-loop identifiers parent-identifiers shares refusal₀ parents₀ depths₀ parts₀ r₀ refusal parents depths parts r = length identifiers - r
+μ-loop identifiers parent-identifiers shares refusal₀ numbers₀ seconds₀ parents₀ depths₀ parts₀ r₀ refusal numbers seconds parents depths parts r = length identifiers - r
 
 none-requires : tie.Need-none-requires Inv-loop μ-loop
 none-requires c κs = search needs
 
 loop-holds : tie.Need-loop-holds Inv-loop μ-loop
-unfolding rows-read first-below read zeros
+unfolding rows-read first-below below read zeros
 loop-holds c = (omega arith, rw (c .none .ensures))
 
 read-row-requires : tie.Need-read-row-requires Inv-loop μ-loop
@@ -40,6 +40,18 @@ read-row-requires c κs = (
 
 or-else-requires : tie.Need-or-else-requires Inv-loop μ-loop
 or-else-requires c κs = search needs
+
+mul-numbers : tie.Need-mul-numbers Inv-loop μ-loop
+mul-numbers c = search needs
+
+array-write-numbers : tie.Need-array-write-numbers Inv-loop μ-loop
+array-write-numbers c = search needs
+
+mul-seconds : tie.Need-mul-seconds Inv-loop μ-loop
+mul-seconds c = search needs
+
+array-write-seconds : tie.Need-array-write-seconds Inv-loop μ-loop
+array-write-seconds c = search needs
 
 mul-parents : tie.Need-mul-parents Inv-loop μ-loop
 mul-parents c = search needs
@@ -73,13 +85,13 @@ loop-less c = search needs
 
 loop-again : tie.Need-loop-again Inv-loop μ-loop
 loop-again c =
-    let s = c .before .before .before .before .before .before .before .before .before .before in
-    let at = c .before .before .before .before .before .loop in (
+    let s = c .before .before .before .before .before .before .before .before .before .before .before in
+    let at = c .before .before .before .before .before .before .loop in (
       omega arith,
       rw (add-one, c .before .or-else .ensures)
           (rows-more (table-of (s .args .identifiers .now) (s .args .parent-identifiers .now) (s .args .shares .now)) (s .pre) (at .r) (omega arith)
-          (rows-of (at .refusal) (at .parents) (at .depths) (at .parts)) (c .before .before .read-row .result) (at .inv .1)
-          (c .before .before .read-row .ensures)),
+          (rows-of (at .refusal) (at .numbers) (at .seconds) (at .parents) (at .depths) (at .parts)) (c .before .before .before .read-row .result) (at .inv .1)
+          (c .before .before .before .read-row .ensures)),
     )
 
 returns : tie.Need-returns Inv-loop μ-loop
@@ -90,5 +102,5 @@ returns c =
 pub read-rows-spec : {M : Type 1} → statement M
 read-rows-spec =
     tie.close
-    (tie.spec Inv-loop μ-loop none-requires loop-holds read-row-requires or-else-requires mul-parents array-write-parents
+    (tie.spec Inv-loop μ-loop none-requires loop-holds read-row-requires or-else-requires mul-numbers array-write-numbers mul-seconds array-write-seconds mul-parents array-write-parents
     mul-depths array-write-depths mul-parts shared-slice-read-parts mul-parts-2 array-write-parts add-r loop-less loop-again returns)

@@ -1,5 +1,6 @@
 -- `judged` meets its contract, by its tests.
 -- Assumes nothing.
+use Rattle.files.proofs.Judged.{unread-none}
 use Rattle.files.specs.Columns.{judged}
 use borrow.Author.Needs.{needs}
 use Rattle.files.proofs.reading.judged.Statement.{statement}
@@ -12,7 +13,7 @@ none-requires : tie.Need-none-requires
 none-requires c κs = search needs
 
 returns : tie.Need-returns
-returns c = search needs
+returns c = search (needs, unread-none)
 
 finish-requires : tie.Need-finish-requires
 finish-requires c κs = search needs

@@ -8,14 +8,17 @@ use Rattle.files.proofs.reading.read_file.Tie as tie
 begin-requires : tie.Need-begin-requires
 begin-requires c κs = search needs
 
-open-read-requires : tie.Need-open-read-requires
-open-read-requires c κs = search needs
+open-requires : tie.Need-open-requires
+open-requires c κs = search needs
+
+errno-requires : tie.Need-errno-requires
+errno-requires c κs = search needs
 
 ended-requires : tie.Need-ended-requires
 ended-requires c κs = search needs
 
 returns : tie.Need-returns
-returns c = rw (c .ended .ensures, c .before .before .before .begin .ensures) (nothing _)
+returns c = rw (c .ended .ensures, c .before .before .before .before .begin .ensures) (nothing _)
 
 read-all-requires : tie.Need-read-all-requires
 read-all-requires c κs = search needs
@@ -39,7 +42,8 @@ read-file-spec =
     tie.close
     (tie.spec
     begin-requires
-    open-read-requires
+    open-requires
+    errno-requires
     ended-requires
     returns
     read-all-requires

@@ -11,6 +11,9 @@ slice-aggregate-read c = search needs
 read-requires : tie.Need-read-requires
 read-requires c κs = search needs
 
+errno-requires : tie.Need-errno-requires
+errno-requires c κs = search needs
+
 ended-requires : tie.Need-ended-requires
 ended-requires c κs = search needs
 
@@ -47,6 +50,7 @@ read-some-spec =
     (tie.spec
     slice-aggregate-read
     read-requires
+    errno-requires
     ended-requires
     returns
     slice-aggregate-count

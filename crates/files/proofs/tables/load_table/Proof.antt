@@ -50,6 +50,7 @@ returns-2 c =
       read = fault-found long;
       same = sym (rows-faulty [] 1 lent long (too-long [] 1 (omega arith)) (λ e. omega (arith, e)));
       failed = true;
+      written = true;
       outcome = c .none .ensures;
     }
 

@@ -1,8 +1,9 @@
 -- `read_held` meets its contract: the rows are those of the text that it is lent.
 -- Assumes nothing.
-use mathlib.Core.Bool.{false}
+use mathlib.Core.Bool.{true, false}
 use borrow.Author.Tests.{eq-eqb, ne-eqb}
 use Rattle.files.specs.Tables.{loaded}
+use native.Mathlib.Omega.{arith}
 use borrow.Author.Needs.{needs}
 use Rattle.files.proofs.tables.read_held.Statement.{statement}
 use Rattle.files.proofs.tables.read_held.Tie as tie
@@ -22,22 +23,23 @@ same-length-3 c = search needs
 returns : tie.Need-returns
 unfolding loaded
 returns c =
-    let args = c .before .before .before .before .before .before .before .before .before .before .before .before .before .before .before .before .before .args in
+    let s = c .before .before .before .before .before .before .before .before .before .before .before .before .before .before .before .before .before in
     let ran = c .before .before .before .before .before .before .before .before .before .read-rows in
     record {
-      text = args .text .now;
-      size = args .size;
+      text = s .args .text .now;
+      size = s .args .size;
       read = ran .result;
       same = ran .ensures;
       failed = false;
+      written = true;
       outcome = rw (eq-eqb (ran .result .fault .number) 0 (c .if1 .taken));
     }
 
 tell-requires : tie.Need-tell-requires
 tell-requires c κs = search needs
 
-none-requires : tie.Need-none-requires
-none-requires c κs = search needs
+refused-requires : tie.Need-refused-requires
+refused-requires c κs = search needs
 
 same-length-4 : tie.Need-same-length-4
 same-length-4 c = search needs
@@ -51,15 +53,16 @@ same-length-6 c = search needs
 returns-2 : tie.Need-returns-2
 unfolding loaded
 returns-2 c =
-    let args = c .before .before .before .before .before .before .before .before .before .before .before .before .before .before .before .before .before .before .before .args in
+    let s = c .before .before .before .before .before .before .before .before .before .before .before .before .before .before .before .before .before .before .before in
     let ran = c .before .before .before .before .before .before .before .before .before .before .before .read-rows in
     record {
-      text = args .text .now;
-      size = args .size;
+      text = s .args .text .now;
+      size = s .args .size;
       read = ran .result;
       same = ran .ensures;
       failed = false;
-      outcome = rw (ne-eqb (ran .result .fault .number) 0 (c .before .before .if1 .left)) (c .none .ensures);
+      written = c .before .tell .result;
+      outcome = rw (ne-eqb (ran .result .fault .number) 0 (c .before .before .if1 .left), c .refused .ensures);
     }
 
 pub read-held-spec : {M : Type 1} → statement M
@@ -72,7 +75,7 @@ read-held-spec =
     same-length-3
     returns
     tell-requires
-    none-requires
+    refused-requires
     same-length-4
     same-length-5
     same-length-6

@@ -13,17 +13,17 @@ slice-aggregate-put-text c = search needs
 put-text-requires : tie.Need-put-text-requires
 put-text-requires c κs = search needs
 
-put-text-requires-2 : tie.Need-put-text-requires-2
-put-text-requires-2 c κs = search needs
+put-name-requires : tie.Need-put-name-requires
+put-name-requires c κs = search needs
 
 same-length : tie.Need-same-length
 same-length c = search needs
 
 returns : tie.Need-returns
 unfolding bytes-of unread
-returns c = then _ _ _ (c .before .before .before .before .before .before .put-text .ensures) (c .before .before .put-text2 .ensures)
+returns c = then _ _ _ (c .before .before .before .before .before .before .put-text .ensures) (c .before .before .put-name .ensures)
 
 pub put-unread-spec : {M : Type 1} → statement M
 put-unread-spec =
     tie.close
-    (tie.spec slice-aggregate-put-text put-text-requires put-text-requires-2 same-length returns)
+    (tie.spec slice-aggregate-put-text put-text-requires put-name-requires same-length returns)

@@ -19,6 +19,9 @@ below-zero (negsuc k) h = refl
 read-requires : tie.Need-read-requires
 read-requires c κs = search needs
 
+errno-requires : tie.Need-errno-requires
+errno-requires c κs = search needs
+
 count-requires : tie.Need-count-requires
 count-requires c κs = search needs
 
@@ -27,8 +30,8 @@ same-length c = search needs
 
 returns : tie.Need-returns
 returns c =
-    let got = toZ w64 (ofZ w64 (c .before .before .before .before .read .result)) in
+    let got = toZ w64 (ofZ w64 (c .before .before .before .before .before .read .result)) in
     record { within = search needs; nothing = λ below. rw (below-zero got below) at (c .count .ensures .1) }
 
 pub read-part-spec : {M : Type 1} → statement M
-read-part-spec = tie.close (tie.spec read-requires count-requires same-length returns)
+read-part-spec = tie.close (tie.spec read-requires errno-requires count-requires same-length returns)
