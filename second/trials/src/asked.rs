@@ -26,7 +26,7 @@ pub const PROGRAMS: [Program; 4] = [
 pub const STANDARD: &str = "-";
 
 /// What is said where both files are standard input.
-const TWICE: &str = "standard input is named twice; give one of the two as a file";
+pub const TWICE: &str = "standard input is named twice; give one of the two as a file";
 
 impl Program {
     /// What the proved one is called, and the second one.
@@ -119,21 +119,29 @@ impl Asked {
         }
     }
 
-    /// Whether this may be said of what cannot be read: how the program is called where the
-    /// arguments are too few or too many, then that standard input is named twice where it is; else
-    /// the name of a file or of a number, and why.
+    /// What must be said of the call where it is wrong, before anything is read.
+    pub fn miscalled(&self) -> Option<&'static str> {
+        let counts = self.program.counts();
+        let files = self.program.files();
+        match counts.contains(&self.arguments.len()) {
+            false => Some(self.program.usage()),
+            true if files == 2 && self.arguments[..files].iter().all(|a| a == STANDARD) => {
+                Some(TWICE)
+            }
+            true => None,
+        }
+    }
+
+    /// Whether this may be said of what cannot be read: what must be said of the call, or the name of
+    /// a file or of a number, and why.
     pub fn is_unread(&self, said: &[u8]) -> bool {
         let Some(rest) = said.strip_prefix(b"cannot read") else {
             return false;
         };
+        if let Some(why) = self.miscalled() {
+            return rest == format!(": {why}\n").as_bytes();
+        }
         let files = 0..self.program.files();
-        let only = |why: &str| rest == format!(": {why}\n").as_bytes();
-        if !self.program.counts().contains(&self.arguments.len()) {
-            return only(self.program.usage());
-        }
-        if files.len() == 2 && self.arguments[files.clone()].iter().all(|a| a == STANDARD) {
-            return only(TWICE);
-        }
         let numbers = self.program.numbers().iter().map(|name| name.as_bytes());
         let mut names = files.map(|file| self.called(file)).chain(numbers);
         names.any(|name| {

@@ -13,9 +13,10 @@ pub const PACKETS: &str = "packet,record,class,length,arrived,sent,finished";
 pub fn answer(asked: &Asked, printed: &Printed) -> Option<usize> {
     let Printed { output, error, end } = printed;
     match end {
+        End::Status(2) => (output.is_empty() && asked.is_unread(error)).then_some(CANNOT_READ),
+        _ if asked.miscalled().is_some() => None,
         End::Status(0) if error.is_empty() => results(asked.program, output),
         End::Status(1) => refusals(asked, output, error),
-        End::Status(2) => (output.is_empty() && asked.is_unread(error)).then_some(CANNOT_READ),
         _ => None,
     }
 }
@@ -147,15 +148,25 @@ mod tests {
     use crate::{answer_name, Fed};
 
     fn said(program: Program, status: i32, output: &str, error: &str) -> Option<String> {
-        let files: &[&str] = match program {
+        let arguments: &[&str] = match program {
             Program::Replay => &["t", "e"],
             Program::Promise => &["t", "1500"],
             Program::Capture => &["c", "t", "1", "2", "3", "4"],
             Program::Table => &["t"],
         };
+        said_to(program, arguments, status, output, error)
+    }
+
+    fn said_to(
+        program: Program,
+        arguments: &[&str],
+        status: i32,
+        output: &str,
+        error: &str,
+    ) -> Option<String> {
         let asked = Asked {
             program,
-            arguments: files.iter().map(Into::into).collect(),
+            arguments: arguments.iter().map(Into::into).collect(),
             fed: Fed::Nothing,
         };
         let printed = Printed {
@@ -275,6 +286,29 @@ mod tests {
             [(4, 1), (11, 2)],
         ] {
             assert_eq!(with(Program::Table, &wrong), None, "{wrong:?}");
+        }
+    }
+
+    #[test]
+    fn a_wrong_call_has_neither_results_nor_refusals() {
+        let refused = format!("{ANSWER}\r\n5,2,1,0\r\n");
+        let sentence = "refused 5 in -: row 2 ..; mend it.\n";
+        let standard = "refused 5 in standard input: row 2 ..; mend it.\n";
+        let run =
+            format!("{ANSWER}\r\n0,0,0,0\r\norder\r\n{ROWS}\r\n1,0,0,0,0,0,0\r\n2,0,0,0,0,0,0\r\n");
+        let answered = |arguments: &[&str]| {
+            let said = |status, output: &str, error| {
+                said_to(Program::Replay, arguments, status, output, error).is_some()
+            };
+            [
+                said(0, &run, ""),
+                said(1, &refused, standard),
+                said(1, &refused, sentence),
+            ]
+        };
+        assert_eq!(answered(&["-", "e"]), [true, true, false]);
+        for wrong in [&["-"][..], &["-", "-"], &["-", "e", "e"]] {
+            assert_eq!(answered(wrong), [false; 3]);
         }
     }
 

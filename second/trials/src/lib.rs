@@ -26,7 +26,7 @@ mod times;
 mod tree;
 
 pub use answers::{answer_name, ANSWERS};
-pub use asked::{Asked, Program, PROGRAMS, STANDARD};
+pub use asked::{Asked, Program, PROGRAMS, STANDARD, TWICE};
 pub use bench::{folders, Bench, Both};
 pub use buffers::{call, Buffers, Engine, ANSWER_BYTES, SLICES, WORD_BYTES};
 pub use case::{Case, Event, Row, FINISH};

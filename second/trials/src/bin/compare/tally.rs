@@ -248,9 +248,10 @@ mod tests {
 
     /// Both programs refuse with a number and a sentence.
     fn both(program: Program, said: [(&str, &str); 2]) -> Both {
+        let arguments = if program == Program::Table { 1 } else { 6 };
         let asked = Asked {
             program,
-            arguments: vec!["t".into()],
+            arguments: vec!["t".into(); arguments],
             fed: Fed::Nothing,
         };
         let printed = said.map(|(number, sentence)| Printed {

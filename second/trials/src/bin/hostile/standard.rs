@@ -8,10 +8,9 @@ use crate::plan::{
 };
 use crate::texts::lengthened;
 use trials::captures::{LAYOUTS, MOST_CAPTURE};
-use trials::{Program, STANDARD};
+use trials::{Program, STANDARD, TWICE};
 
 const NAME: &str = "cannot read standard input";
-const TWICE: &str = "cannot read: standard input is named twice; give one of the two as a file\n";
 const NO_HEADING: &str = ", line 1: the heading must be class,length\n";
 
 pub fn standard_inputs() -> Vec<Trial> {
@@ -161,6 +160,7 @@ fn without_bytes() -> Vec<Trial> {
 fn with_others() -> Vec<Trial> {
     let table = || Input::Standard(Box::new(bytes(TABLE)));
     let missing = || plain("/no such folder/file");
+    let twice = end(&format!("{TWICE}\n"));
     let no_number = end("cannot read LARGEST: it is not a decimal number\n");
     let replay = |inputs: &[Input], wanted| (Program::Replay, inputs.to_vec(), wanted);
     let promise = |inputs: &[Input]| (Program::Promise, inputs.to_vec(), no_number.clone());
@@ -170,7 +170,7 @@ fn with_others() -> Vec<Trial> {
     };
     let faulty = Input::Standard(Box::new(bytes(NO_TABLE)));
     let trials = [
-        replay(&[table(), table()], end(TWICE)),
+        replay(&[table(), table()], twice.clone()),
         replay(
             &[table(), plain("./-")],
             end("./-, line 1: the line has no end\n"),
@@ -181,8 +181,8 @@ fn with_others() -> Vec<Trial> {
         replay(&[table(), table(), table()], None),
         promise(&[table(), plain(STANDARD)]),
         promise(&[table(), plain("x")]),
-        capture([table(), table()], NUMBERS, end(TWICE)),
-        capture([table(), table()], ["x", "-", "", "0"], end(TWICE)),
+        capture([table(), table()], NUMBERS, twice.clone()),
+        capture([table(), table()], ["x", "-", "", "0"], twice.clone()),
         capture([table(), missing()], NUMBERS, end(NO_FILE)),
         capture([missing(), table()], NUMBERS, end(NO_FILE)),
     ];
