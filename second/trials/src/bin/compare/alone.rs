@@ -174,11 +174,17 @@ fn steep_rows(random: &mut Random) -> Vec<Row> {
     rows
 }
 
-/// One to eight faults at any rows. One may hide another, or bring further ones about.
+/// One to eight faults at any rows, in one of three tables of one number. One may hide another, or
+/// bring further ones about.
 fn put_in_faults(case: &mut Case, random: &mut Random) {
     case.rows.truncate(ROOM);
+    let one = random.pick(&REFUSALS);
+    let numbers = match random.one_in(3) {
+        true => &[one][..],
+        false => &REFUSALS,
+    };
     for _ in 0..random.between(1, FAULTS) {
-        match random.pick(&REFUSALS) {
+        match random.pick(numbers) {
             8 => wrong_shares(&mut case.rows, random),
             9 => too_deep(&mut case.rows, random),
             10 => over_whole(&mut case.rows, random),

@@ -183,10 +183,13 @@ pub fn too_few(name: &str, count: u64, wanted: u64) -> Option<String> {
 
 #[cfg(test)]
 mod tests {
-    use second::MOST_BYTES;
-    use trials::{even_table, Asked, End, Event, Fed, Printed, Program};
+    use std::fs;
 
     use super::*;
+    use crate::alone::table_trial;
+    use crate::{DEFAULT_LISTS, DEFAULT_SEED, LISTS_A_TABLE};
+    use second::MOST_BYTES;
+    use trials::{even_table, Asked, End, Event, Fed, Folder, Printed, Program};
 
     #[test]
     fn what_comes_up_too_seldom_is_named() {
@@ -244,6 +247,47 @@ mod tests {
         assert!(text.contains("answer 7: 0, answer 8: 1, answer 9: 0, "));
         assert!(text.contains("texts of one table, damaged byte by byte: 1\n"));
         assert!(text.ends_with("captures of two packets, damaged byte by byte: 1\n"));
+    }
+
+    /// The second program's answer to this table, as if both had given it.
+    fn both_of(files: &Files, folder: &Folder) -> Both {
+        let table = folder.path().join("table");
+        match &files.table {
+            Some(bytes) => fs::write(&table, bytes).expect("it can be written"),
+            None => drop(fs::remove_file(&table)),
+        }
+        let arguments = vec![table.into_os_string()];
+        let response = second::table_program::respond(&arguments);
+        let printed = Printed {
+            output: response.output,
+            error: response.error,
+            end: End::Status(response.status.into()),
+        };
+        let asked = Asked {
+            program: Program::Table,
+            arguments,
+            fed: Fed::Nothing,
+        };
+        let printed = [printed.clone(), printed];
+        Both { asked, printed }
+    }
+
+    #[test]
+    fn every_seed_has_enough_of_all_tables() {
+        let folder = Folder::fresh("tables").expect("a folder can be made");
+        for seed in [0, 1, DEFAULT_SEED] {
+            let mut tally = Tally::default();
+            for number in 0..DEFAULT_LISTS / LISTS_A_TABLE {
+                let files = table_trial(seed, number).files;
+                tally.add_table(number, &both_of(&files, &folder));
+            }
+            assert_eq!(tally.differing, [], "seed {seed}");
+            assert_eq!(
+                tally.listed.shortages(),
+                Vec::<String>::new(),
+                "seed {seed}"
+            );
+        }
     }
 
     /// Both programs refuse with a number and a sentence.
