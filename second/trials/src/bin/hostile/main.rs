@@ -165,3 +165,73 @@ fn show(trial: &Trial, both: &Both) {
         }
     }
 }
+
+#[cfg(test)]
+mod tests {
+    use super::*;
+
+    /// The argument for an input, and what standard input is then.
+    fn laid(input: Input) -> (OsString, Fed, Folder) {
+        let folder = Folder::fresh("inputs").expect("a folder can be made");
+        let mut fed = Fed::Nothing;
+        let argument = argument(&input, &folder.path().join("input-0"), &mut fed);
+        let argument = argument.expect("it can be laid").expect("it can be had");
+        (argument, fed, folder)
+    }
+
+    #[test]
+    fn inputs_become_arguments() {
+        let (argument, fed, _) = laid(Input::Plain("-".into()));
+        assert_eq!((argument, fed), ("-".into(), Fed::Nothing));
+        let (argument, fed, _folder) = laid(Input::Bytes(b"x".to_vec()));
+        assert!(fs::read(&argument).is_ok_and(|bytes| bytes == b"x") && fed == Fed::Nothing);
+        let (argument, _, _folder) = laid(Input::Named("-", b"x".to_vec()));
+        assert!(Path::new(&argument).is_absolute() && fs::read(&argument).is_ok());
+        let (argument, _, _folder) = laid(Input::Folder);
+        assert!(Path::new(&argument).is_dir());
+        let (argument, _, _folder) = laid(Input::Circle);
+        let refused = File::open(argument).expect_err("it goes nowhere");
+        assert_eq!(refused.raw_os_error(), Some(40));
+    }
+
+    #[test]
+    fn standard_input_is_a_file_a_folder_or_a_pipe() {
+        let (argument, fed, folder) = laid(Input::Standard(Box::new(plan::bytes("x"))));
+        assert_eq!(fed, Fed::File(folder.path().join("input-0")));
+        assert_eq!(argument, STANDARD);
+        let (argument, fed, folder) = laid(Input::Standard(Box::new(Input::Folder)));
+        assert_eq!(fed, Fed::File(folder.path().join("folder")));
+        assert_eq!(argument, STANDARD);
+        let (argument, fed, _) = laid(Input::Piped(b"x".to_vec()));
+        assert_eq!((argument, fed), (STANDARD.into(), Fed::Pipe(b"x".to_vec())));
+    }
+
+    #[test]
+    fn what_is_wanted_is_looked_for_on_its_channel() {
+        let answered = |wanted: &Wanted, output: &str, error: &str| {
+            let trial = Trial {
+                name: String::new(),
+                program: trials::Program::Table,
+                inputs: Vec::new(),
+                wanted: Some(wanted.clone()),
+            };
+            let printed = Printed {
+                output: output.as_bytes().to_vec(),
+                error: error.as_bytes().to_vec(),
+                end: trials::End::Status(0),
+            };
+            is_answered(&trial, &printed)
+        };
+        let end = Wanted::End(": why\n".to_string());
+        assert!(answered(&end, "", "cannot read x: why\n"));
+        assert!(!answered(&end, "cannot read x: why\n", ""));
+        let answer = Wanted::Answer([4, 2]);
+        let text = format!("{ANSWER}\r\n4,2,0,0\r\n");
+        assert!(answered(&answer, &text, "x") && !answered(&answer, "", &text));
+        let longer = format!("{text}4,3,0,0\r\n");
+        assert!(!answered(&answer, &longer, "x"));
+        let both = Wanted::Text("o".to_string(), "e".to_string());
+        assert!(answered(&both, "o", "e") && !answered(&both, "e", "o"));
+        assert!(!answered(&both, "o", "") && !answered(&both, "o", "ee"));
+    }
+}

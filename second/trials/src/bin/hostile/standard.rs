@@ -24,12 +24,17 @@ pub fn standard_inputs() -> Vec<Trial> {
     .concat()
 }
 
+fn standard(file: Input) -> Input {
+    Input::Standard(Box::new(file))
+}
+
 /// The bytes as a file that is standard input, and by a pipe, with a name for a reader.
 fn both_ways(name: &str, bytes: &[u8]) -> [(String, Input); 2] {
-    let file = Input::Standard(Box::new(Input::Bytes(bytes.to_vec())));
+    let bytes = bytes.to_vec();
+    let file = standard(Input::Bytes(bytes.clone()));
     [
         (format!("standard input, {name}"), file),
-        (format!("a pipe, {name}"), Input::Piped(bytes.to_vec())),
+        (format!("a pipe, {name}"), Input::Piped(bytes)),
     ]
 }
 
@@ -39,15 +44,22 @@ fn end(end: &str) -> Option<Wanted> {
 
 /// Every program over this table, with what all must print.
 fn over_table(name: &str, table: &Input, wanted: &Option<Wanted>) -> Vec<Trial> {
-    let mut all = with_table(name, table.clone()).to_vec();
-    let capture = trial(
-        &format!("table: {name}"),
-        [whole(), table.clone()],
-        NUMBERS,
-        None,
-    );
-    all.push(capture);
+    let named = format!("table: {name}");
+    let capture = trial(&named, [whole(), table.clone()], NUMBERS, None);
+    let all = [&with_table(name, table.clone())[..], &[capture]].concat();
     wanting(all, wanted).collect()
+}
+
+fn over_list(name: &str, list: Input, wanted: Option<Wanted>) -> Trial {
+    Trial {
+        wanted,
+        ..with_events(name, list)
+    }
+}
+
+fn over_capture(name: &str, capture: Input, wanted: Option<Wanted>) -> Trial {
+    let files = [capture, bytes(TABLE)];
+    trial(&format!("capture: {name}"), files, NUMBERS, wanted)
 }
 
 fn tables() -> Vec<Trial> {
@@ -92,73 +104,60 @@ fn lists() -> Vec<Trial> {
         ),
     ];
     let over = |(name, text, wanted): (&str, &[u8], Option<Wanted>)| {
-        let trials = both_ways(name, text).map(|(name, input)| with_events(&name, input));
-        wanting(trials.to_vec(), &wanted).collect::<Vec<_>>()
+        both_ways(name, text).map(|(name, input)| over_list(&name, input, wanted.clone()))
     };
     texts.into_iter().flat_map(over).collect()
 }
 
 fn captures() -> Vec<Trial> {
-    let done = LAYOUTS.map(|layout| small(layout).bytes());
-    let cut = &done[0][..done[0].len() - 1];
+    let done = LAYOUTS.map(|layout| (layout.to_string(), small(layout).bytes()));
+    let cut = &done[0].1[..done[0].1.len() - 1];
     let long = vec![0; MOST_CAPTURE + 1];
-    let too_long = format!("{NAME}{TOO_LONG}");
+    let too_long = end(&format!("{NAME}{TOO_LONG}"));
     let mut files: Vec<(&str, &[u8], Option<Wanted>)> = vec![
         ("a table", TABLE.as_bytes(), Some(refused(32, 0))),
         ("cut off", cut, Some(refused(36, 1))),
         ("as long as it may be", &long[1..], Some(refused(32, 0))),
-        ("too long", &long[..], end(&too_long)),
+        ("too long", &long[..], too_long.clone()),
     ];
-    files.extend(
-        done.iter()
-            .map(|done| ("done", &done[..], Some(small_done()))),
-    );
+    let layouts = done.iter();
+    files.extend(layouts.map(|(name, done)| (&name[..], &done[..], Some(small_done()))));
     let over = |(name, bytes, wanted): (&str, &[u8], Option<Wanted>)| {
-        both_ways(name, bytes).map(|(name, input)| with_capture(&name, input, wanted.clone()))
+        both_ways(name, bytes).map(|(name, input)| over_capture(&name, input, wanted.clone()))
     };
     let mut all: Vec<Trial> = files.into_iter().flat_map(over).collect();
-    let endless = Input::Standard(Box::new(plain("/dev/zero")));
-    all.push(with_capture(
-        "standard input without end",
-        endless,
-        end(&too_long),
-    ));
+    let endless = standard(plain("/dev/zero"));
+    all.push(over_capture("standard input, no end", endless, too_long));
     all
-}
-
-fn with_capture(name: &str, capture: Input, wanted: Option<Wanted>) -> Trial {
-    let files = [capture, bytes(TABLE)];
-    trial(&format!("capture: {name}"), files, NUMBERS, wanted)
 }
 
 /// Standard input that is a folder, that has no bytes, and a pipe that has none.
 fn without_bytes() -> Vec<Trial> {
-    let folder = Input::Standard(Box::new(Input::Folder));
     let is_folder = end(&format!("{NAME}{IS_FOLDER}"));
-    let mut all = over_table("standard input is a folder", &folder, &is_folder);
-    let rest = [with_events("standard input is a folder", folder.clone())];
-    all.extend(wanting(rest.to_vec(), &is_folder));
-    all.push(with_capture(
-        "standard input is a folder",
-        folder,
-        is_folder,
-    ));
-    let none = [
-        ("nothing", plain(STANDARD)),
-        ("an empty pipe", Input::Piped(Vec::new())),
+    let no_list = end(&format!("{NAME}{NO_HEADING}"));
+    let nothing = [Some(refused(47, 1)), no_list, Some(refused(31, 0))];
+    let inputs = [
+        (
+            "a folder",
+            standard(Input::Folder),
+            [(); 3].map(|()| is_folder.clone()),
+        ),
+        ("nothing", plain(STANDARD), nothing.clone()),
+        ("an empty pipe", Input::Piped(Vec::new()), nothing),
     ];
-    for (name, input) in none {
-        all.extend(over_table(name, &input, &Some(refused(47, 1))));
-        let list = with_events(name, input.clone());
-        all.extend(wanting(vec![list], &end(&format!("{NAME}{NO_HEADING}"))));
-        all.push(with_capture(name, input, Some(refused(31, 0))));
-    }
-    all
+    let over = |(name, input, [table, list, capture]): (&str, Input, [Option<Wanted>; 3])| {
+        let name = format!("standard input is {name}");
+        let mut all = over_table(&name, &input, &table);
+        all.push(over_list(&name, input.clone(), list));
+        all.push(over_capture(&name, input, capture));
+        all
+    };
+    inputs.into_iter().flat_map(over).collect()
 }
 
 /// Standard input twice, and beside files and numbers that cannot be read.
 fn with_others() -> Vec<Trial> {
-    let table = || Input::Standard(Box::new(bytes(TABLE)));
+    let table = || standard(bytes(TABLE));
     let missing = || plain("/no such folder/file");
     let twice = end(&format!("{TWICE}\n"));
     let no_number = end("cannot read LARGEST: it is not a decimal number\n");
@@ -168,7 +167,7 @@ fn with_others() -> Vec<Trial> {
         let inputs = [&files[..], &numbers.map(plain)].concat();
         (Program::Capture, inputs, wanted)
     };
-    let faulty = Input::Standard(Box::new(bytes(NO_TABLE)));
+    let faulty = standard(bytes(NO_TABLE));
     let trials = [
         replay(&[table(), table()], twice.clone()),
         replay(
@@ -193,4 +192,45 @@ fn with_others() -> Vec<Trial> {
         wanted,
     };
     trials.into_iter().enumerate().map(named).collect()
+}
+
+#[cfg(test)]
+mod tests {
+    use std::collections::BTreeSet;
+
+    use super::*;
+
+    #[test]
+    fn each_file_of_each_program_is_standard_input_at_times_as_a_file_and_as_a_pipe() {
+        let trials = standard_inputs();
+        let found = |program: Program, place: usize, piped: bool| {
+            let is = |input: Option<&Input>| match input {
+                Some(Input::Piped(bytes)) => piped && !bytes.is_empty(),
+                Some(Input::Standard(_)) => !piped,
+                _ => false,
+            };
+            let of_program = trials.iter().filter(|trial| trial.program == program);
+            let count = of_program.filter(|t| is(t.inputs.get(place))).count();
+            assert!(count > 5, "{program:?} {place} {piped} {count}");
+        };
+        let files = [
+            (Program::Replay, 0),
+            (Program::Replay, 1),
+            (Program::Promise, 0),
+            (Program::Capture, 0),
+            (Program::Capture, 1),
+            (Program::Table, 0),
+        ];
+        for (program, place) in files {
+            found(program, place, false);
+            found(program, place, true);
+        }
+    }
+
+    #[test]
+    fn names_are_distinct() {
+        let trials = standard_inputs();
+        let names: BTreeSet<String> = trials.iter().map(Trial::to_string).collect();
+        assert_eq!(names.len(), trials.len());
+    }
 }
