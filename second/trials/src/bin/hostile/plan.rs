@@ -217,6 +217,16 @@ const ODD: [(&str, &[u8], Option<&str>); 11] = [
     ("a file called like standard input", b"./-", None),
 ];
 
+/// Files with odd names, one of them a table with two refusals.
+const NAMED: [(&str, &str); 3] = [
+    ("a name  with spaces.csv", TABLE),
+    ("a name  with spaces.csv", EVENTS),
+    (
+        "odd \t\n%s\u{e9}.csv",
+        "identifier,parent,share\r\n0,0,0\r\n0,1,0\r\n",
+    ),
+];
+
 /// Files that are none, and names that are odd, with what is said where one cannot be read.
 pub fn special() -> Vec<(String, Input, Option<Wanted>)> {
     let odd =
@@ -229,13 +239,10 @@ pub fn special() -> Vec<(String, Input, Option<Wanted>)> {
             Some(": its name is too long\n"),
         )
     });
-    let spaced = [TABLE, EVENTS].map(|text| {
-        let named = Input::Named("a name  with spaces.csv", text.as_bytes().to_vec());
-        (
-            format!("{} bytes, name with spaces", text.len()),
-            named,
-            None,
-        )
+    let named = NAMED.map(|(file, text)| {
+        let input = Input::Named(file, text.as_bytes().to_vec());
+        let name = format!("{} bytes, called {file:?}", text.len());
+        (name, input, None)
     });
     let others = [
         ("a folder", Input::Folder, IS_FOLDER),
@@ -251,7 +258,7 @@ pub fn special() -> Vec<(String, Input, Option<Wanted>)> {
         ),
     ];
     let others = others.map(|(name, input, why)| (name.to_string(), input, Some(why)));
-    let all = odd.into_iter().chain(long).chain(spaced).chain(others);
+    let all = odd.into_iter().chain(long).chain(named).chain(others);
     let wanted = |why: &str| Wanted::End(why.to_string());
     all.map(|(name, input, why)| (name, input, why.map(wanted)))
         .collect()
