@@ -147,11 +147,8 @@ echo sentence >&2
 exit 1
 ";
 
-    /// Pairs of a program and a table.
-    const PAIRS: usize = PROGRAMS.len() * TABLES.len();
-
-    /// How many failures there are where each side's programs are such scripts.
-    fn wrong(scripts: [&str; 2]) -> usize {
+    /// A bench where each side's programs are such scripts, and its folder.
+    fn bench(scripts: [&str; 2]) -> (Bench, Folder) {
         let folder = Folder::fresh("streams").expect("a folder can be made");
         let folders = ["proved", "second"].map(|name| folder.path().join(name));
         for (side, script) in scripts.into_iter().enumerate() {
@@ -164,34 +161,40 @@ exit 1
             }
         }
         let bench = Bench::new(&folders, folder.path()).expect("a bench can be made");
-        let (failures, count) = failures(&bench, folder.path()).expect("they can be run");
-        assert_eq!(count, PAIRS * CHANGES.len());
-        failures.len()
+        (bench, folder)
     }
 
     #[test]
     fn programs_that_do_what_they_must_pass() {
-        assert_eq!(wrong([RIGHT, RIGHT]), 0);
+        let (bench, folder) = bench([RIGHT, RIGHT]);
+        let (failures, count) = failures(&bench, folder.path()).expect("they can be run");
+        assert_eq!(failures, Vec::<String>::new());
+        assert_eq!(count, PROGRAMS.len() * TABLES.len() * CHANGES.len());
     }
 
     #[test]
     fn a_wrong_status_sentence_or_channel_fails_on_either_side() {
+        let wrong = |scripts: [&str; 2]| {
+            let (bench, folder) = bench(scripts);
+            let failures = failures_over(Program::Table, TABLE, &bench, folder.path());
+            failures.expect("they can be run").len()
+        };
         let changed = |from: &str, to: &str| RIGHT.replace(from, to);
         let full = [
-            changed("full' >&2; exit 2", "full' >&2; exit 1"),
-            changed("the disk is full", "the system refuses them with error 28"),
-            changed("full' >&2", "full'"),
+            (changed("full' >&2; exit 2", "full' >&2; exit 1"), 2),
+            (changed("the disk is full", "the disk is not full"), 1),
+            (changed("full' >&2", "full'"), 1),
         ];
-        let [status, words, channel] = full;
-        for (script, changes) in [(&status, 2), (&words, 1), (&channel, 1)] {
-            assert_eq!(wrong([script, RIGHT]), changes * PAIRS, "{script}");
-            assert_eq!(wrong([RIGHT, script]), changes * PAIRS, "{script}");
+        for (script, changes) in full {
+            assert_eq!(wrong([&script, RIGHT]), changes, "{script}");
+            assert_eq!(wrong([RIGHT, &script]), changes, "{script}");
         }
         // The second program is not asked about a closed stream.
         let closed = changed("is closed' >&2; exit 2", "is closed' >&2; exit 0");
-        assert_eq!(wrong([&closed, RIGHT]), 3 * PAIRS);
+        assert_eq!(wrong([&closed, RIGHT]), 3);
         assert_eq!(wrong([RIGHT, &closed]), 0);
-        let said = changed("exit 1\n", "exit 0\n");
-        assert!(wrong([RIGHT, &said]) > 0);
+        // All that leave the usual end.
+        let done = changed("exit 1\n", "exit 0\n");
+        assert_eq!(wrong([RIGHT, &done]), 4);
     }
 }
