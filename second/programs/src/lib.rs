@@ -1,5 +1,5 @@
-//! A replayer for a hierarchical packet scheduler in whole numbers, over lists and captures, and the
-//! sheet of its promise.
+//! A replayer for a hierarchical packet scheduler in whole numbers, over lists and captures, the
+//! sheet of its promise, and its class table drawn as a tree.
 #![forbid(unsafe_code)]
 
 mod answer;
@@ -7,17 +7,20 @@ pub mod capture;
 mod counts;
 mod csv;
 mod events;
+mod files;
 mod inside;
 mod print;
 pub mod program;
 pub mod promise;
 mod report;
+mod response;
 mod run;
 mod sentences;
 mod shares;
 pub mod sheet;
 mod slices;
 mod table;
+pub mod table_program;
 mod text;
 mod tree;
 

@@ -3,12 +3,16 @@
 use crate::answer::Answer;
 use crate::csv::{report_text, LINE_END};
 
-/// The heading and the answer's four numbers.
-pub fn answer_text(answer: &Answer) -> String {
-    format!(
-        "answer,place,second,count{LINE_END}{},{},{},{}{LINE_END}",
-        answer.number, answer.place, answer.second, answer.count
-    )
+/// The heading and the four numbers of each answer.
+pub fn answers_text<'a>(answers: impl IntoIterator<Item = &'a Answer>) -> String {
+    let mut text = format!("answer,place,second,count{LINE_END}");
+    for answer in answers {
+        text.push_str(&format!(
+            "{},{},{},{}{LINE_END}",
+            answer.number, answer.place, answer.second, answer.count
+        ));
+    }
+    text
 }
 
 /// The order, then the report with the lags.

@@ -4,11 +4,11 @@ use std::ffi::{OsStr, OsString};
 
 use crate::answer::number_of;
 use crate::events::MOST_BYTES;
-use crate::program::{read_argument, read_table, replay, Response};
-use crate::run::MOST_EVENTS;
+use crate::files::Source;
+use crate::program::{read_argument, read_table, refused_table, Response};
+use crate::run::{check_rows, MOST_EVENTS};
 use crate::shares::is_exact;
 use crate::sheet::{climb, Figure};
-use crate::slices::{EventSlices, TableSlices};
 use crate::table::Table;
 use crate::text::{read_number, NotRead};
 
@@ -43,7 +43,7 @@ fn read_and_work(arguments: &[OsString]) -> Result<Response, Response> {
         _ => {
             let wanted = "give a class table and the largest packet, \
                           promise TABLE LARGEST [OWN [PACKETS]]";
-            return Err(cannot_read("", wanted));
+            return Err(Response::misunderstood(wanted));
         }
     };
     let largest = read_largest(largest)?;
@@ -52,41 +52,26 @@ fn read_and_work(arguments: &[OsString]) -> Result<Response, Response> {
         own: read_optional("OWN", rest.first(), largest)?,
         packets: read_optional("PACKETS", rest.get(1), number_of(MOST_EVENTS))?,
     };
-    let table = read_table(file)?;
-    Ok(refusal_or_sheet(&table.slices(), &numbers))
+    let file = Source::new(file);
+    let columns = read_table(file)?;
+    let slices = columns.slices();
+    let table = check_rows(&slices)
+        .and_then(|()| Table::read(&slices))
+        .map_err(|answer| refused_table(file, &slices, &[answer]))?;
+    Ok(Response::done(sheet_text(&table, &numbers)))
 }
 
 fn read_largest(argument: &OsStr) -> Result<u32, Response> {
-    match read_number(argument.as_encoded_bytes()) {
-        Ok(largest) if (1..=MOST_BYTES).contains(&largest) => Ok(largest),
-        Err(why @ NotRead::NotDecimal) => Err(cannot_read(" LARGEST", &format!("it is {why}"))),
-        _ => {
-            let why = format!("a packet has 1 to {MOST_BYTES} bytes");
-            Err(cannot_read(" LARGEST", &why))
-        }
-    }
+    let why = match read_number(argument.as_encoded_bytes()) {
+        Ok(largest) if (1..=MOST_BYTES).contains(&largest) => return Ok(largest),
+        Err(why @ NotRead::NotDecimal) => format!(": it is {why}"),
+        _ => format!(": a packet has 1 to {MOST_BYTES} bytes"),
+    };
+    Err(Response::cannot_read(OsStr::new("LARGEST"), &why))
 }
 
 fn read_optional(name: &str, argument: Option<&OsString>, default: u32) -> Result<u32, Response> {
     argument.map_or(Ok(default), |argument| read_argument(name, argument))
-}
-
-fn cannot_read(what: &str, why: &str) -> Response {
-    Response::plain(format!("cannot read{what}: {why}\n").into_bytes())
-}
-
-/// A table that a run refuses is refused here in the same words.
-fn refusal_or_sheet(slices: &TableSlices, numbers: &Numbers) -> Response {
-    let events = EventSlices {
-        classes: &[],
-        lengths: &[],
-    };
-    let said = replay(*slices, events);
-    let accepted = said.error.is_empty();
-    match accepted.then(|| Table::read(slices)) {
-        Some(Ok(table)) => Response::plain(sheet_text(&table, numbers).into_bytes()),
-        _ => said,
-    }
 }
 
 fn sheet_text(table: &Table, numbers: &Numbers) -> String {

@@ -1,15 +1,32 @@
-//! A refusal as one sentence for a person: where it is and what to mend.
+//! A refusal for a person: where it is and what to mend.
 
 use crate::answer::Answer;
 use crate::events::MOST_BYTES;
 use crate::slices::{EventSlices, TableSlices};
+use crate::table::Table;
 
-/// The sentence for a refusal of this table and these events; none for an accepted run.
+/// How the sentence ends for a refusal of this table and these events, behind its number and the
+/// file; none for an accepted run.
 pub fn sentence(answer: &Answer, table: &TableSlices, events: &EventSlices) -> Option<String> {
     let place = answer.place as usize;
-    let said = match answer.number {
-        1 => rows(table),
+    Some(match answer.number {
         2 => list(events),
+        11 => no_class(events, place),
+        12 => not_sending(table, events, place),
+        13 => length(events, place),
+        14 => format!(
+            "{} is a finish while the line is idle; take it out or put an arrival before it.",
+            event_name(place)
+        ),
+        _ => return table_sentence(answer, table),
+    })
+}
+
+/// The same for a refusal that is not of an event.
+pub(crate) fn table_sentence(answer: &Answer, table: &TableSlices) -> Option<String> {
+    let place = answer.place as usize;
+    Some(match answer.number {
+        1 => rows(table),
         3 => "a slice lent for the results is too short.".to_string(),
         4 => format!(
             "{} has identifier 0; give it a number from 1 to 65535.",
@@ -19,23 +36,11 @@ pub fn sentence(answer: &Answer, table: &TableSlices, events: &EventSlices) -> O
         6 => root(table),
         7 => parent(table, place),
         8 => share(table, place),
-        // The first row too deep is just one below the deepest allowed.
-        9 => format!(
-            "{}, has depth 9; put it under a class of depth 7 or less.",
-            class_name(table, place)
-        ),
+        9 => depth(table, place),
         10 => sum(table, place),
-        11 => no_class(events, place),
-        12 => not_sending(table, events, place),
-        13 => length(events, place),
-        14 => format!(
-            "{} is a finish while the line is idle; take it out or put an arrival before it.",
-            event_name(place)
-        ),
         15 => large(table, place),
         _ => return None,
-    };
-    Some(format!("refused {}: {said}", answer.number))
+    })
 }
 
 /// The word at this place; 0 past the end, which no place of a real refusal is.
@@ -97,12 +102,15 @@ fn repeated(table: &TableSlices, row: usize, earlier: usize) -> String {
 }
 
 fn root(table: &TableSlices) -> String {
-    format!(
-        "{}, is the line itself and has parent {} and share {}; set both to 0.",
-        class_name(table, 0),
-        word(table.parents, 0),
-        word(table.shares, 0)
-    )
+    let name = class_name(table, 0);
+    let (parent, share) = (word(table.parents, 0), word(table.shares, 0));
+    if parent != 0 && share != 0 {
+        return format!(
+            "{name}, has parent {parent} and share {share}, as a class does; \
+             the line's own row comes first: put it above, with parent 0 and share 0."
+        );
+    }
+    format!("{name}, is the line itself and has parent {parent} and share {share}; set both to 0.")
 }
 
 fn parent(table: &TableSlices, row: usize) -> String {
@@ -122,18 +130,25 @@ fn share(table: &TableSlices, row: usize) -> String {
     )
 }
 
-fn sum(table: &TableSlices, row: usize) -> String {
-    let identifier = word(table.identifiers, row);
-    let sum: u64 = table
-        .parents
-        .iter()
-        .zip(table.shares)
-        .filter(|(parent, _)| **parent == identifier)
-        .map(|(_, share)| u64::from(*share))
-        .sum();
+fn depth(table: &TableSlices, row: usize) -> String {
+    let depth = Table::standing(table).rows.get(row).map_or(0, |r| r.depth);
     format!(
-        "the children of {}, have shares that add up to {sum}; bring them to 840 or less.",
+        "{}, has depth {depth}; put it under a class of depth 7 or less.",
         class_name(table, row)
+    )
+}
+
+fn sum(table: &TableSlices, row: usize) -> String {
+    let standing = Table::standing(table);
+    let shares: Vec<String> = standing
+        .children(row)
+        .map(|child| format!("class {} has {}", child.identifier, child.share))
+        .collect();
+    format!(
+        "the children of {}, have shares that add up to {}: {}; bring them to 840 or less.",
+        class_name(table, row),
+        standing.children_share(row),
+        shares.join(", ")
     )
 }
 

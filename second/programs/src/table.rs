@@ -11,7 +11,9 @@ pub const MOST_IDENTIFIER: u32 = 65_535;
 
 pub struct Row {
     pub identifier: u32,
-    /// The parent's row; the root alone has none.
+    /// The parent's identifier as it is written.
+    parent_written: u32,
+    /// The first row above with that identifier. In an accepted table the root alone has none.
     pub parent: Option<usize>,
     pub share: u32,
     pub depth: usize,
@@ -24,18 +26,31 @@ pub struct Table {
 }
 
 impl Table {
-    /// Checks the rows one after another, then the sums of shares.
+    /// The table, or its first refusal.
     pub fn read(slices: &TableSlices) -> Result<Table, Answer> {
+        let table = Table::standing(slices);
+        let first = table.refusals().next();
+        first.map_or(Ok(table), Err)
+    }
+
+    /// The rows as they stand, those that are refused among them.
+    pub fn standing(slices: &TableSlices) -> Table {
         let mut table = Table { rows: Vec::new() };
         let parents_and_shares = slices.parents.iter().zip(slices.shares);
         for (identifier, (parent, share)) in slices.identifiers.iter().zip(parents_and_shares) {
-            table.add_row(*identifier, *parent, *share)?;
+            table.add_row(*identifier, *parent, *share);
         }
-        table.check_sums()?;
-        Ok(table)
+        table
     }
 
-    /// The row with this identifier, if there is one.
+    /// The rows' own refusals one after another, then those of the sums of shares.
+    pub fn refusals(&self) -> impl Iterator<Item = Answer> + '_ {
+        let rows = 0..self.rows.len();
+        let own = rows.clone().filter_map(move |row| self.row_refusal(row));
+        own.chain(rows.filter_map(move |row| self.sum_refusal(row)))
+    }
+
+    /// The first row with this identifier, if there is one.
     pub fn find(&self, identifier: u32) -> Option<usize> {
         self.rows.iter().position(|r| r.identifier == identifier)
     }
@@ -51,72 +66,73 @@ impl Table {
         path
     }
 
-    fn add_row(&mut self, identifier: u32, parent: u32, share: u32) -> Result<(), Answer> {
+    /// The rows right under this one, if it is there.
+    pub fn children(&self, row: usize) -> impl Iterator<Item = &Row> {
+        let children = self.rows.get(row).into_iter().flat_map(|r| &r.children);
+        children.map(move |child| &self.rows[*child])
+    }
+
+    /// What the shares of a row's children come to.
+    pub fn children_share(&self, row: usize) -> u64 {
+        self.children(row).map(|child| u64::from(child.share)).sum()
+    }
+
+    fn add_row(&mut self, identifier: u32, parent_written: u32, share: u32) {
+        let row = self.rows.len();
+        // Only the rows above are in the table by now, so none finds itself.
+        let parent = self.find(parent_written);
+        // A class without a parent stands as one right under the line.
+        let above = parent.map_or(0, |parent| self.rows[parent].depth);
+        if let Some(parent) = parent {
+            self.rows[parent].children.push(row);
+        }
+        self.rows.push(Row {
+            identifier,
+            parent_written,
+            parent,
+            share,
+            depth: if row == 0 { 0 } else { above + 1 },
+            children: Vec::new(),
+        });
+    }
+
+    fn row_refusal(&self, row: usize) -> Option<Answer> {
+        let identifier = self.rows[row].identifier;
         if identifier == 0 {
-            return Err(Answer::refused(4, self.rows.len()));
+            return Some(Answer::refused(4, row));
         }
         if identifier > MOST_IDENTIFIER {
-            return Err(Answer::refused(15, self.rows.len()));
+            return Some(Answer::refused(15, row));
         }
-        if self.rows.is_empty() {
-            self.add_root(identifier, parent, share)
-        } else {
-            self.add_class(identifier, parent, share)
+        match row {
+            0 => self.root_refusal(),
+            _ => self.class_refusal(row),
         }
     }
 
-    fn add_root(&mut self, identifier: u32, parent: u32, share: u32) -> Result<(), Answer> {
-        if parent != 0 || share != 0 {
-            return Err(Answer::refused(6, 0));
-        }
-        self.rows.push(Row {
-            identifier,
-            parent: None,
-            share: 0,
-            depth: 0,
-            children: Vec::new(),
-        });
-        Ok(())
+    fn root_refusal(&self) -> Option<Answer> {
+        let root = &self.rows[0];
+        let plain = root.parent_written == 0 && root.share == 0;
+        (!plain).then(|| Answer::refused(6, 0))
     }
 
-    fn add_class(&mut self, identifier: u32, parent: u32, share: u32) -> Result<(), Answer> {
-        let row = self.rows.len();
-        if let Some(earlier) = self.find(identifier) {
-            return Err(Answer::repeated(row, earlier));
+    fn class_refusal(&self, row: usize) -> Option<Answer> {
+        let class = &self.rows[row];
+        let first = self.find(class.identifier);
+        if let Some(earlier) = first.filter(|first| *first < row) {
+            return Some(Answer::repeated(row, earlier));
         }
-        // Only earlier rows are in the table by now, so a class never finds itself.
-        let Some(parent) = self.find(parent) else {
-            return Err(Answer::refused(7, row));
-        };
-        if !shares::is_allowed(share) {
-            return Err(Answer::refused(8, row));
+        if class.parent.is_none() {
+            return Some(Answer::refused(7, row));
         }
-        let depth = self.rows[parent].depth + 1;
-        if depth > MOST_DEPTH {
-            return Err(Answer::refused(9, row));
+        if !shares::is_allowed(class.share) {
+            return Some(Answer::refused(8, row));
         }
-        self.rows[parent].children.push(row);
-        self.rows.push(Row {
-            identifier,
-            parent: Some(parent),
-            share,
-            depth,
-            children: Vec::new(),
-        });
-        Ok(())
+        (class.depth > MOST_DEPTH).then(|| Answer::refused(9, row))
     }
 
-    fn check_sums(&self) -> Result<(), Answer> {
-        for (row, parent) in self.rows.iter().enumerate() {
-            let sum: u64 = parent
-                .children
-                .iter()
-                .map(|child| u64::from(self.rows[*child].share))
-                .sum();
-            if sum > u64::from(shares::WHOLE) {
-                return Err(Answer::refused(10, row));
-            }
-        }
-        Ok(())
+    fn sum_refusal(&self, row: usize) -> Option<Answer> {
+        let over = self.children_share(row) > u64::from(shares::WHOLE);
+        over.then(|| Answer::refused(10, row))
     }
 }

@@ -1,13 +1,13 @@
 //! The program `capture`: what it prints, and what it says of arguments and files.
 
 use std::fs;
-use std::path::{Path, PathBuf};
+use std::path::Path;
 
 use second::capture::MOST_CAPTURE;
 
 use crate::common::captures::{packet, Record, FIRST, FORMS, MICRO, SECOND};
 use crate::common::files::{
-    capture, event_text, file, printed, program, results, table_text, Printed,
+    capture, event_text, failed, file, path, program, results, table_text, Printed,
 };
 use crate::common::{chain, HALVES, ROOT};
 
@@ -20,7 +20,7 @@ packet,record,class,length,arrived,sent,finished
 ";
 
 const USAGE: &str = "cannot read: give a capture, a class table, three classes and a rate, \
-                     capture CAPTURE TABLE FIRST SECOND THIRD RATE\n";
+                     capture CAPTURE TABLE FIRST SECOND THIRD RATE";
 
 /// What is printed for these bytes, this table, and classes 10, 20 and 20.
 fn over_bytes(test: &str, bytes: &[u8], table: &[u8], rate: &str) -> Printed {
@@ -123,13 +123,13 @@ fn leading_zeros_are_read() {
 #[test]
 fn a_wrong_number_of_arguments_is_named() {
     for count in [0, 1, 5, 7] {
-        assert_eq!(capture(&vec!["1"; count]), printed(USAGE));
+        assert_eq!(capture(&vec!["1"; count]), failed(USAGE));
     }
 }
 
 /// What is said of numbers in the last four places, with files that are missing.
 fn said_of(numbers: [&str; 4]) -> Printed {
-    let missing = PathBuf::from(env!("CARGO_TARGET_TMPDIR")).join("missing");
+    let missing = path("missing");
     over_files(&missing, &missing, numbers)
 }
 
@@ -143,12 +143,12 @@ fn a_number_that_is_none_is_named() {
             said_of(numbers)
         };
         for wrong in ["", "-1", "+1", " 1", "1 ", "1.5", "0x1", "x", "9999999999x"] {
-            let said = format!("cannot read {name}: it is not a decimal number\n");
-            assert_eq!(with(wrong), printed(&said));
+            let said = format!("cannot read {name}: it is not a decimal number");
+            assert_eq!(with(wrong), failed(&said));
         }
         for wrong in ["4294967296", "04294967296", "18446744073709551616"] {
-            let said = format!("cannot read {name}: it is over 4294967295\n");
-            assert_eq!(with(wrong), printed(&said));
+            let said = format!("cannot read {name}: it is over 4294967295");
+            assert_eq!(with(wrong), failed(&said));
         }
     }
 }
@@ -157,31 +157,28 @@ fn a_number_that_is_none_is_named() {
 fn numbers_are_looked_at_from_left_to_right() {
     let wrong = ["x", "4294967296", "x", "4294967296"];
     let said = [
-        "cannot read FIRST: it is not a decimal number\n",
-        "cannot read SECOND: it is over 4294967295\n",
-        "cannot read THIRD: it is not a decimal number\n",
-        "cannot read RATE: it is over 4294967295\n",
+        "cannot read FIRST: it is not a decimal number",
+        "cannot read SECOND: it is over 4294967295",
+        "cannot read THIRD: it is not a decimal number",
+        "cannot read RATE: it is over 4294967295",
     ];
     for (right, said) in said.into_iter().enumerate() {
         let mut numbers = wrong;
         numbers[..right].fill("4294967295");
-        assert_eq!(said_of(numbers), printed(said));
+        assert_eq!(said_of(numbers), failed(said));
     }
 }
 
 #[test]
 fn files_that_cannot_be_read_are_named_after_the_numbers() {
-    let folder = PathBuf::from(env!("CARGO_TARGET_TMPDIR"));
-    let missing = folder.join("missing.pcap");
+    let [missing, other] = ["missing.pcap", "missing.table"].map(path);
     let bytes = file("header_alone.pcap", &MICRO.header([2, 4], 101));
-    for unread in [&folder, &missing] {
-        let name = unread.display();
-        let said = printed(&format!(
-            "cannot read {name}: it is missing or cannot be read\n"
-        ));
-        assert_eq!(over_files(unread, &folder, ["1"; 4]), said);
-        assert_eq!(over_files(&bytes, unread, ["1"; 4]), said);
-    }
+    let said = |name: &Path| {
+        let name = name.display();
+        failed(&format!("cannot read {name}: there is no such file"))
+    };
+    assert_eq!(over_files(&missing, &other, ["1"; 4]), said(&missing));
+    assert_eq!(over_files(&bytes, &other, ["1"; 4]), said(&other));
 }
 
 #[cfg(unix)]
@@ -193,9 +190,8 @@ fn a_captures_name_is_printed_as_it_was_given() {
     let mut arguments = vec![OsString::from_vec(b"no\xffsuch".to_vec())];
     arguments.resize(6, OsString::from("1"));
     let response = second::capture::respond(&arguments);
-    let expected = b"cannot read no\xffsuch: it is missing or cannot be read\n";
-    assert_eq!(response.output, expected);
-    assert!(response.error.is_empty());
+    let expected = b"cannot read no\xffsuch: there is no such file\n";
+    assert_eq!(response.error, expected);
 }
 
 /// One record includes all that the capture may have.
@@ -210,14 +206,14 @@ fn a_capture_of_more_than_4194304_bytes_is_not_read() {
     let said = over_bytes("long_capture", &bytes, table.as_bytes(), "1000000");
     assert!(said.output.ends_with("\r\n0,0,10,100,0,0,100\r\n"));
     bytes.push(0);
-    let name = PathBuf::from(env!("CARGO_TARGET_TMPDIR")).join("long_capture.pcap");
+    let name = path("long_capture.pcap");
     let said = over_bytes("long_capture", &bytes, b"x", "0");
     let expected = format!(
         "cannot read {}: it has more than 4194304 bytes; \
-         cut its packets down, say with editcap -F pcap -s 64\n",
+         cut its packets down, say with editcap -F pcap -s 64",
         name.display()
     );
-    assert_eq!(said, printed(&expected));
+    assert_eq!(said, failed(&expected));
     fs::remove_file(name).expect("the test's file can be taken away");
 }
 
@@ -236,7 +232,7 @@ fn a_fault_of_the_tables_text_is_answered_as_in_a_run() {
     ];
     for (number, text) in (40..).zip(texts) {
         let said = same_as_second("faulty_capture_table", text, "0");
-        assert!(said.error.starts_with(&format!("refused {number}: ")));
+        assert!(said.error.starts_with(&format!("refused {number} in ")));
     }
 }
 

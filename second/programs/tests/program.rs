@@ -1,11 +1,10 @@
 //! The program's text form: what it reads, what it prints and what it cannot read.
 
-use std::fs;
 use std::path::{Path, PathBuf};
 
 use crate::common::files::{
-    event_text, file, over_bytes, over_rows, printed, program, results, table_text, with_cr,
-    Printed,
+    event_text, failed, file, named, over_bytes, over_rows, path, program, refused, results,
+    table_text, with_cr, Printed,
 };
 use crate::common::{HALVES, P1_EVENTS};
 
@@ -22,7 +21,7 @@ identifier,bytes,start,finish,virtual,held,lag
 20,100,84000,252000,0,0,0
 ";
 
-const USAGE: &str = "cannot read: give a class table and an event list, second TABLE EVENTS\n";
+const USAGE: &str = "cannot read: give a class table and an event list, second TABLE EVENTS";
 
 /// Runs events that cannot be read, with P1's table; gives what follows the file's name.
 fn event_fault(test: &str, events: &[u8]) -> String {
@@ -33,9 +32,9 @@ fn event_fault(test: &str, events: &[u8]) -> String {
 
 fn fault_of(faulty: &Path, arguments: &[&PathBuf]) -> String {
     let said = program(arguments);
-    assert_eq!(said.error, "");
+    assert_eq!((&said.output[..], said.status), ("", Some(2)));
     let before = format!("cannot read {}", faulty.display());
-    let rest = said.output.strip_prefix(&before);
+    let rest = said.error.strip_prefix(&before);
     rest.expect("the sentence names the file").to_string()
 }
 
@@ -101,38 +100,22 @@ fn in_events_leading_zeros_are_read() {
 }
 
 #[test]
-fn a_missing_table_cannot_be_read() {
-    let missing = PathBuf::from(env!("CARGO_TARGET_TMPDIR")).join("missing.table");
-    let said = fault_of(&missing, &[&missing, &missing]);
-    assert_eq!(said, ": it is missing or cannot be read\n");
-}
-
-#[test]
-fn missing_events_cannot_be_read() {
+fn missing_events_are_named_after_the_table() {
     let table = file("alone.table", table_text(&HALVES).as_bytes());
-    let missing = PathBuf::from(env!("CARGO_TARGET_TMPDIR")).join("missing.events");
-    let said = fault_of(&missing, &[&table, &missing]);
-    assert_eq!(said, ": it is missing or cannot be read\n");
-}
-
-#[test]
-fn a_folder_cannot_be_read() {
-    let folder = PathBuf::from(env!("CARGO_TARGET_TMPDIR")).join("folder");
-    fs::create_dir_all(&folder).expect("the test's folder can be made");
-    let said = fault_of(&folder, &[&folder, &folder]);
-    assert_eq!(said, ": it is missing or cannot be read\n");
+    let [missing, other] = ["missing.events", "missing.table"].map(path);
+    let none = ": there is no such file\n";
+    assert_eq!(fault_of(&missing, &[&table, &missing]), none);
+    assert_eq!(fault_of(&other, &[&other, &missing]), none);
 }
 
 #[test]
 fn a_fault_of_the_table_comes_before_all_of_the_events() {
     let table = file("both.table", b"x\n");
-    let missing = PathBuf::from(env!("CARGO_TARGET_TMPDIR")).join("missing.events");
-    for events in [file("both.events", b"x\n"), missing] {
-        let said = program(&[&table, &events]);
-        assert_eq!(said.output, "answer,place,second,count\r\n41,1,0,0\r\n");
-        assert!(said
-            .error
-            .starts_with("refused 41: line 1 has \"x\" at byte 1, "));
+    let sentence = "refused 41 in TABLE: line 1 has \"x\" at byte 1, where the heading \
+                    identifier,parent,share has not; write the heading as it stands here.";
+    let expected = refused("41,1,0,0", &named("both", sentence));
+    for events in [file("both.events", b"x\n"), path("missing.events")] {
+        assert_eq!(program(&[&table, &events]), expected);
     }
 }
 
@@ -246,20 +229,28 @@ fn fields_are_looked_at_from_left_to_right() {
 
 #[test]
 fn a_wrong_number_of_arguments_is_named() {
-    assert_eq!(program::<&str>(&[]), printed(USAGE));
-    assert_eq!(program(&["one"]), printed(USAGE));
-    assert_eq!(program(&["one", "two", "three"]), printed(USAGE));
+    assert_eq!(program::<&str>(&[]), failed(USAGE));
+    assert_eq!(program(&["one"]), failed(USAGE));
+    assert_eq!(program(&["one", "two", "three"]), failed(USAGE));
 }
 
 #[cfg(unix)]
 #[test]
 fn a_files_name_is_printed_as_it_was_given() {
     use std::ffi::OsString;
+    use std::fs;
     use std::os::unix::ffi::OsStringExt;
 
-    let name = OsString::from_vec(b"no\xffsuch".to_vec());
-    let response = second::program::respond(&[name, OsString::new()]);
-    let expected = b"cannot read no\xffsuch: it is missing or cannot be read\n";
-    assert_eq!(response.output, expected);
-    assert!(response.error.is_empty());
+    let name = |end: &[u8]| OsString::from_vec(end.to_vec());
+    let missing = second::program::respond(&[name(b"no\xffsuch"), OsString::new()]);
+    let expected = b"cannot read no\xffsuch: there is no such file\n";
+    assert_eq!(missing.error, expected);
+    let table = path("").join(name(b"odd\xffname"));
+    fs::write(&table, b"").expect("the test's file can be written");
+    let empty = second::program::respond(&[table.into_os_string(), OsString::new()]);
+    let expected = b"odd\xffname: the text is empty; begin it with";
+    assert!(empty
+        .error
+        .windows(expected.len())
+        .any(|part| part == expected));
 }

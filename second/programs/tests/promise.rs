@@ -2,7 +2,9 @@
 
 use std::path::PathBuf;
 
-use crate::common::files::{event_text, file, printed, program, promise, table_text, Printed};
+use crate::common::files::{
+    event_text, failed, file, printed, program, promise, table_text, Printed,
+};
 use crate::common::{chain, wide, Row, HALVES, ROOT, TWO_LEVELS};
 
 /// The table of docs/FAIRNESS.md.
@@ -145,8 +147,8 @@ fn over_bytes(test: &str, table: &[u8], arguments: &[&str]) -> Printed {
 
 /// The sentence on these arguments, with a table that is accepted.
 fn says(test: &str, arguments: &[&str], sentence: &str) {
-    let expected = printed(&format!("{sentence}\n"));
-    assert_eq!(sheet(test, &HALVES, arguments), expected, "{arguments:?}");
+    let said = sheet(test, &HALVES, arguments);
+    assert_eq!(said, failed(sentence), "{arguments:?}");
 }
 
 #[test]
@@ -274,10 +276,10 @@ fn a_largest_packet_of_each_length_is_worked() {
 #[test]
 fn a_wrong_number_of_arguments_is_named() {
     let usage = "cannot read: give a class table and the largest packet, \
-                 promise TABLE LARGEST [OWN [PACKETS]]\n";
-    assert_eq!(promise::<&str>(&[]), printed(usage));
-    assert_eq!(promise(&["one"]), printed(usage));
-    assert_eq!(promise(&["one", "2", "3", "4", "5"]), printed(usage));
+                 promise TABLE LARGEST [OWN [PACKETS]]";
+    assert_eq!(promise::<&str>(&[]), failed(usage));
+    assert_eq!(promise(&["one"]), failed(usage));
+    assert_eq!(promise(&["one", "2", "3", "4", "5"]), failed(usage));
 }
 
 #[test]
@@ -332,17 +334,17 @@ fn own_bytes_and_packets_over_32_bits_are_named() {
 
 #[test]
 fn arguments_are_looked_at_from_left_to_right_and_before_the_table() {
-    let said = |numbers: [&str; 3]| promise(&[&["no such table"], &numbers[..]].concat()).output;
-    let largest = "cannot read LARGEST: it is not a decimal number\n";
-    assert_eq!(said(["x", "x", "x"]), largest);
-    let range = "cannot read LARGEST: a packet has 1 to 9000 bytes\n";
-    assert_eq!(said(["0", "x", "x"]), range);
-    let own = "cannot read OWN: it is not a decimal number\n";
-    assert_eq!(said(["1", "x", "4294967296"]), own);
-    let packets = "cannot read PACKETS: it is over 4294967295\n";
-    assert_eq!(said(["1", "1", "4294967296"]), packets);
-    let table = "cannot read no such table: it is missing or cannot be read\n";
-    assert_eq!(said(["1", "1", "1"]), table);
+    let said = |numbers: [&str; 3]| promise(&[&["no such table"], &numbers[..]].concat());
+    let largest = "cannot read LARGEST: it is not a decimal number";
+    assert_eq!(said(["x", "x", "x"]), failed(largest));
+    let range = "cannot read LARGEST: a packet has 1 to 9000 bytes";
+    assert_eq!(said(["0", "x", "x"]), failed(range));
+    let own = "cannot read OWN: it is not a decimal number";
+    assert_eq!(said(["1", "x", "4294967296"]), failed(own));
+    let packets = "cannot read PACKETS: it is over 4294967295";
+    assert_eq!(said(["1", "1", "4294967296"]), failed(packets));
+    let table = "cannot read no such table: there is no such file";
+    assert_eq!(said(["1", "1", "1"]), failed(table));
 }
 
 #[test]
@@ -380,15 +382,15 @@ fn a_fault_of_a_tables_text_is_answered_as_in_a_run() {
     ];
     for (number, text) in (40..).zip(texts) {
         let said = same_as_second("faulty_sheet", text);
-        assert!(said.error.starts_with(&format!("refused {number}: ")));
+        assert!(said.error.starts_with(&format!("refused {number} in ")));
     }
 }
 
 #[test]
 fn arguments_are_looked_at_before_a_fault_of_the_table() {
     let said = over_bytes("faulty_table", b"x", &["1500", "x"]);
-    let own = "cannot read OWN: it is not a decimal number\n";
-    assert_eq!(said, printed(own));
+    let own = "cannot read OWN: it is not a decimal number";
+    assert_eq!(said, failed(own));
 }
 
 /// The sheet's program and the run without events print the same, and no sheet.

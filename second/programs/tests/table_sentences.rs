@@ -4,16 +4,14 @@ use std::ffi::OsString;
 
 use second::program::respond;
 
-use crate::common::files::{file, over_bytes, table_text, Printed};
+use crate::common::files::{file, named, over_bytes, refused, table_text};
 use crate::common::texts::{below, HEADING};
 use crate::common::{wide, HALVES};
 
 /// Runs the program over these bytes and compares all that it prints; events are not read.
 fn says(test: &str, table: &[u8], [number, line]: [u32; 2], sentence: &str) {
-    let expected = Printed {
-        output: format!("answer,place,second,count\r\n{number},{line},0,0\r\n"),
-        error: format!("refused {number}: {sentence}\n"),
-    };
+    let sentence = named(test, &format!("refused {number} in TABLE: {sentence}"));
+    let expected = refused(&format!("{number},{line},0,0"), &sentence);
     assert_eq!(
         over_bytes(test, table, b"x"),
         expected,
@@ -22,7 +20,7 @@ fn says(test: &str, table: &[u8], [number, line]: [u32; 2], sentence: &str) {
     );
 }
 
-/// The sentence for this table, without its number.
+/// How the sentence for this table ends.
 fn sentence(test: &str, table: &[u8]) -> String {
     let table = file(&format!("{test}.table"), table);
     let response = respond(&[table.into_os_string(), OsString::from("no such events")]);
@@ -78,10 +76,8 @@ fn a_text_of_65536_bytes_is_looked_at() {
     let text = below(&rows);
     assert_eq!(text.len(), 65_536);
     let said = over_bytes("most_rows", &text, b"class,length\n");
-    assert_eq!(
-        said.error,
-        "refused 1: the table has 9358 rows; give it 2 to 256.\n"
-    );
+    let sentence = "refused 1 in TABLE: the table has 9358 rows; give it 2 to 256.";
+    assert_eq!(said, refused("1,0,0,0", &named("most_rows", sentence)));
 }
 
 #[test]

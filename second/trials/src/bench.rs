@@ -6,80 +6,35 @@ use std::io::{Error, Result};
 use std::path::{Path, PathBuf};
 use std::process::Command;
 
-use crate::{CaptureFile, End, Files, Printed};
+use crate::form::answer;
+use crate::{Asked, CaptureFile, Fed, Files, Printed, Program, PROGRAMS};
 
-/// The numbers of answers: those of a run up to 15, of a capture, and of a table's text.
-const NUMBERS: [usize; 33] = [
-    0, 1, 2, 3, 4, 5, 6, 7, 8, 9, 10, 11, 12, 13, 14, 15, 30, 31, 32, 33, 34, 35, 36, 37, 38, 40,
-    41, 42, 43, 44, 45, 46, 47,
-];
-
-/// What is counted as an answer: `NUMBERS`, then `cannot read`, a sheet, and a sheet with a number
-/// that outgrows.
-pub const ANSWERS: usize = NUMBERS.len() + 3;
-const CANNOT_READ: usize = NUMBERS.len();
-const SHEET: usize = NUMBERS.len() + 1;
-const OUTGROWN: usize = NUMBERS.len() + 2;
-
-/// What an answer is, for a reader.
-pub fn answer_name(answer: usize) -> String {
-    match answer {
-        CANNOT_READ => "cannot read".to_string(),
-        SHEET => "sheet".to_string(),
-        OUTGROWN => "sheet that outgrows".to_string(),
-        _ => format!("answer {}", NUMBERS[answer]),
-    }
+/// What the proved program did, and the second one, when both were asked this.
+pub struct Both {
+    pub asked: Asked,
+    pub printed: [Printed; 2],
 }
-
-/// The place among the answers of the one that begins so; nothing if it is none.
-fn answer(output: &[u8]) -> Option<usize> {
-    if output.starts_with(b"cannot read") {
-        return Some(CANNOT_READ);
-    }
-    if output.starts_with(b"own bytes ") {
-        let outgrows = output
-            .split(|b| *b == b'\n')
-            .any(|line| line.ends_with(b" = outgrown"));
-        return Some(if outgrows { OUTGROWN } else { SHEET });
-    }
-    let rest = output.strip_prefix(b"answer,place,second,count\r\n")?;
-    let number = rest.split(|b| *b == b',').next()?;
-    let number: usize = std::str::from_utf8(number).ok()?.parse().ok()?;
-    NUMBERS.iter().position(|known| *known == number)
-}
-
-/// Which of the programs is run.
-#[derive(Clone, Copy, Debug, PartialEq, Eq)]
-pub enum Program {
-    Replay,
-    Promise,
-    Capture,
-}
-
-pub const PROGRAMS: [Program; 3] = [Program::Replay, Program::Promise, Program::Capture];
-
-impl Program {
-    /// What the proved one is called, and the second one.
-    pub fn names(self) -> [&'static str; 2] {
-        match self {
-            Program::Replay => ["replay", "second"],
-            Program::Promise => ["promise", "promise"],
-            Program::Capture => ["capture", "capture"],
-        }
-    }
-}
-
-/// What the proved program did, and the second one.
-pub struct Both(pub [Printed; 2]);
 
 impl Both {
-    /// The answer on which they agree to the byte; nothing if they do not.
+    /// The answer on which they agree to the byte and in the status; nothing if they do not, or if
+    /// it is not printed as it must be.
     pub fn agreed(&self) -> Option<usize> {
-        let [proved, second] = &self.0;
-        if proved != second || proved.end != End::Status(0) {
-            return None;
+        let [proved, second] = &self.printed;
+        let alike = proved.output == second.output && proved.end == second.end;
+        match alike && proved.error == self.renamed(&second.error) {
+            true => answer(&self.asked, proved),
+            false => None,
         }
-        answer(&proved.output)
+    }
+
+    /// What the second program says; where that is how it is called, with the proved one's name.
+    fn renamed(&self, said: &[u8]) -> Vec<u8> {
+        let called = self.asked.program.names();
+        let [name, other] = called.map(|name| format!(", {name} TABLE EVENTS\n").into_bytes());
+        match said.strip_suffix(&other[..]) {
+            Some(before) => [before, &name].concat(),
+            None => said.to_vec(),
+        }
     }
 }
 
@@ -100,36 +55,42 @@ impl Bench {
     }
 
     pub fn run(&self, files: &Files) -> Result<Both> {
-        let (program, arguments) = self.lay(files)?;
-        self.over(program, &arguments)
+        self.over(self.lay(files)?)
     }
 
-    /// Puts the files into the folder. Gives the program that they are for, and its arguments.
-    pub fn lay(&self, files: &Files) -> Result<(Program, Vec<OsString>)> {
+    /// Puts the files into the folder. Gives what is asked with them.
+    pub fn lay(&self, files: &Files) -> Result<Asked> {
         let laid = |name: &str, bytes: &Option<Vec<u8>>| {
             let path = self.folder.join(name);
             put(&path, bytes).map(|()| path.into_os_string())
         };
         let table = laid("table.csv", &files.table)?;
-        if let Some(CaptureFile { bytes, numbers }) = &files.capture {
-            let capture = laid("capture.pcap", bytes)?;
-            let arguments = [&[capture, table], &numbers[..]].concat();
-            return Ok((Program::Capture, arguments));
-        }
-        Ok(match &files.sheet {
-            None => {
-                let events = laid("events.csv", &files.events)?;
-                (Program::Replay, vec![table, events])
+        let program = files.program();
+        let arguments = match (&files.capture, &files.sheet) {
+            (Some(CaptureFile { bytes, numbers }), _) => {
+                let capture = laid("capture.pcap", bytes)?;
+                [&[capture, table], &numbers[..]].concat()
             }
-            Some(rest) => (Program::Promise, [&[table], &rest[..]].concat()),
+            (None, Some(rest)) => [&[table], &rest[..]].concat(),
+            (None, None) if program == Program::Table => vec![table],
+            (None, None) => vec![table, laid("events.csv", &files.events)?],
+        };
+        Ok(Asked {
+            program,
+            arguments,
+            fed: Fed::Nothing,
         })
     }
 
-    /// Both programs with these arguments.
-    pub fn over(&self, program: Program, arguments: &[OsString]) -> Result<Both> {
-        let [proved, second] = self.paths(program);
-        let printed = |path| Printed::by(Command::new(path).args(arguments), &self.folder);
-        Ok(Both([printed(proved)?, printed(second)?]))
+    /// Both programs when they are asked this.
+    pub fn over(&self, asked: Asked) -> Result<Both> {
+        let [proved, second] = self.paths(asked.program);
+        let printed = |path| {
+            let mut command = Command::new(path);
+            Printed::by(command.args(&asked.arguments), &asked.fed, &self.folder)
+        };
+        let printed = [printed(proved)?, printed(second)?];
+        Ok(Both { asked, printed })
     }
 
     pub fn paths(&self, program: Program) -> [PathBuf; 2] {
@@ -138,9 +99,14 @@ impl Bench {
     }
 }
 
-/// The two folders of programs, if all six programs are there.
+/// The two folders of programs, if all the programs are there. Their paths hold in any folder.
 pub fn folders(proved: &OsString, second: &OsString) -> Result<[PathBuf; 2]> {
-    let folders = [PathBuf::from(proved), PathBuf::from(second)];
+    let folders = [proved, second].map(|folder| {
+        let missing = |_| Error::other(format!("{} is not there", folder.display()));
+        fs::canonicalize(folder).map_err(missing)
+    });
+    let [proved, second] = folders;
+    let folders = [proved?, second?];
     for program in PROGRAMS {
         for (folder, name) in folders.iter().zip(program.names()) {
             let path = folder.join(name);
@@ -163,49 +129,134 @@ fn put(path: &Path, bytes: &Option<Vec<u8>>) -> Result<()> {
 #[cfg(test)]
 mod tests {
     use super::*;
+    use crate::{End, Folder};
 
-    fn printed(output: &str) -> Printed {
-        Printed {
-            output: output.as_bytes().to_vec(),
-            error: Vec::new(),
-            end: End::Status(0),
+    fn both(arguments: &[&str], printed: [&Printed; 2]) -> Both {
+        Both {
+            asked: Asked {
+                program: Program::Replay,
+                arguments: arguments.iter().map(OsString::from).collect(),
+                fed: Fed::Nothing,
+            },
+            printed: printed.map(Printed::clone),
         }
     }
 
-    #[test]
-    fn answers_are_recognised() {
-        let numbered =
-            |line: &str| answer(format!("answer,place,second,count\r\n{line}\r\n").as_bytes());
-        for number in [0, 1, 15, 30, 38, 40, 47] {
-            let name = numbered(&format!("{number},0,0,0")).map(answer_name);
-            assert_eq!(name, Some(format!("answer {number}")));
+    fn agreed(printed: [&Printed; 2]) -> Option<usize> {
+        both(&["t", "e"], printed).agreed()
+    }
+
+    fn refused(number: u32) -> Printed {
+        Printed {
+            output: format!("answer,place,second,count\r\n{number},0,0,0\r\n").into_bytes(),
+            error: format!("refused {number} in t: it is so; mend it.\n").into_bytes(),
+            end: End::Status(1),
         }
-        for number in ["16", "29", "39", "48", "x", ""] {
-            assert_eq!(numbered(&format!("{number},0,0,0")), None);
-        }
-        assert_eq!(answer(b"answer,place,second,count\n0,0,0,3\n"), None);
-        assert_eq!(answer(b""), None);
-        assert_eq!(answer(b"cannot read x, line 1: ..\n"), Some(CANNOT_READ));
-        let sheet = "own bytes 1, largest packet 1, three packets 3\n";
-        assert_eq!(answer(sheet.as_bytes()), Some(SHEET));
-        let outgrown =
-            format!("{sheet}\n  class 1: (1 + 3) * 840 / 1 + 2 / 840 = outgrown\n  the line\n");
-        assert_eq!(answer(outgrown.as_bytes()), Some(OUTGROWN));
     }
 
     #[test]
     fn programs_agree_only_on_an_answer_that_both_print() {
-        let said = "answer,place,second,count\r\n1,0,0,0\r\n";
-        let ended = |end| Printed {
-            end,
-            ..printed(said)
+        let said = refused(1);
+        let nothing = Printed {
+            output: Vec::new(),
+            error: Vec::new(),
+            end: End::Status(1),
         };
-        assert_eq!(Both([printed(said), printed(said)]).agreed(), Some(1));
-        assert_eq!(Both([printed(said), printed("")]).agreed(), None);
-        assert_eq!(Both([printed(""), printed("")]).agreed(), None);
-        for end in [End::Killed, End::Late, End::Status(1)] {
-            assert_eq!(Both([ended(end), ended(end)]).agreed(), None);
-            assert_eq!(Both([printed(said), ended(end)]).agreed(), None);
+        assert_eq!(agreed([&said, &said]), Some(1));
+        assert_eq!(agreed([&said, &nothing]), None);
+        assert_eq!(agreed([&nothing, &nothing]), None);
+        assert_eq!(agreed([&said, &refused(4)]), None);
+    }
+
+    #[test]
+    fn programs_agree_only_with_the_right_end() {
+        let said = refused(1);
+        for end in [End::Killed, End::Late, End::Status(0), End::Status(2)] {
+            let other = Printed {
+                end,
+                ..said.clone()
+            };
+            assert_eq!(agreed([&other, &other]), None);
+            assert_eq!(agreed([&said, &other]), None);
+            assert_eq!(agreed([&other, &said]), None);
+        }
+    }
+
+    #[test]
+    fn programs_agree_only_on_the_same_sentence_on_standard_error() {
+        let said = refused(1);
+        let other = Printed {
+            error: b"refused 1 in t: it is other; mend it.\n".to_vec(),
+            ..said.clone()
+        };
+        assert_eq!(agreed([&other, &other]), Some(1));
+        assert_eq!(agreed([&said, &other]), None);
+        let without_file = Printed {
+            error: b"refused 1: it is so; mend it.\n".to_vec(),
+            ..said.clone()
+        };
+        assert_eq!(agreed([&without_file, &without_file]), None);
+        let channel = Printed {
+            output: [&said.output[..], &said.error].concat(),
+            error: Vec::new(),
+            ..said
+        };
+        assert_eq!(agreed([&channel, &channel]), None);
+    }
+
+    #[test]
+    fn each_program_says_how_it_is_called_itself() {
+        let usage = |name: &str| Printed {
+            output: Vec::new(),
+            error: format!(
+                "cannot read: give a class table and an event list, {name} TABLE EVENTS\n"
+            )
+            .into_bytes(),
+            end: End::Status(2),
+        };
+        let [proved, second] = ["replay", "second"].map(usage);
+        let agreed = |printed| both(&["t"], printed).agreed();
+        assert!(agreed([&proved, &second]).is_some());
+        assert_eq!(agreed([&second, &second]), None);
+        assert_eq!(agreed([&second, &proved]), None);
+    }
+
+    #[test]
+    fn files_are_laid_for_their_program() {
+        let folder = Folder::fresh("bench").expect("a folder can be made");
+        let programs = [folder.path().to_path_buf(), folder.path().to_path_buf()];
+        let bench = Bench::new(&programs, folder.path()).expect("a bench can be made");
+        let table = Files {
+            table: Some(b"t".to_vec()),
+            ..Files::default()
+        };
+        let sheet = Files {
+            sheet: Some(vec!["1".into()]),
+            ..table.clone()
+        };
+        let capture = Files {
+            capture: Some(CaptureFile::default()),
+            ..table.clone()
+        };
+        let alone = Files {
+            alone: true,
+            ..table.clone()
+        };
+        let expected: [(Files, Program, &[&str]); 4] = [
+            (table, Program::Replay, &["table.csv", "events.csv"]),
+            (sheet, Program::Promise, &["table.csv", "1"]),
+            (capture, Program::Capture, &["capture.pcap", "table.csv"]),
+            (alone, Program::Table, &["table.csv"]),
+        ];
+        for (files, program, names) in expected {
+            let asked = bench.lay(&files).expect("they can be laid");
+            let name = |argument: &OsString| {
+                let path = Path::new(argument).file_name();
+                path.map(|name| name.to_string_lossy().into_owned())
+            };
+            let laid: Vec<String> = asked.arguments.iter().filter_map(name).collect();
+            assert_eq!(asked.program, program);
+            assert_eq!(laid, names);
         }
     }
 }

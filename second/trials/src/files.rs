@@ -2,7 +2,7 @@
 
 use std::ffi::OsString;
 
-use crate::{Case, Random};
+use crate::{Case, Program, Random};
 
 /// A file that is not there has no bytes.
 #[derive(Clone, Debug, Default, PartialEq, Eq)]
@@ -13,6 +13,8 @@ pub struct Files {
     pub sheet: Option<Vec<OsString>>,
     /// Where a capture is replayed and not a list.
     pub capture: Option<CaptureFile>,
+    /// Where the table alone is asked for.
+    pub alone: bool,
 }
 
 #[derive(Clone, Debug, Default, PartialEq, Eq)]
@@ -28,6 +30,16 @@ impl Files {
             table: Some(case.table_text().into_bytes()),
             events: Some(case.event_text().into_bytes()),
             ..Files::default()
+        }
+    }
+
+    /// The program that they are for.
+    pub fn program(&self) -> Program {
+        match (&self.capture, &self.sheet, self.alone) {
+            (Some(_), _, _) => Program::Capture,
+            (None, Some(_), _) => Program::Promise,
+            (None, None, true) => Program::Table,
+            (None, None, false) => Program::Replay,
         }
     }
 

@@ -2,6 +2,8 @@
 //! the same seed; running programs over them, calling engines, and showing where they differ.
 #![forbid(unsafe_code)]
 
+mod answers;
+mod asked;
 mod bench;
 mod buffers;
 pub mod captures;
@@ -12,6 +14,7 @@ pub mod engines;
 mod events;
 mod files;
 mod folder;
+mod form;
 mod printed;
 mod random;
 mod rounding;
@@ -20,8 +23,11 @@ mod shrink;
 mod steady;
 mod tables;
 mod times;
+mod tree;
 
-pub use bench::{answer_name, folders, Bench, Both, Program, ANSWERS, PROGRAMS};
+pub use answers::{answer_name, ANSWERS};
+pub use asked::{Asked, Program, PROGRAMS, STANDARD, TWICE};
+pub use bench::{folders, Bench, Both};
 pub use buffers::{call, Buffers, Engine, ANSWER_BYTES, SLICES, WORD_BYTES};
 pub use case::{Case, Event, Row, FINISH};
 pub use damage::{damage, damage_twice, NUMBERS};
@@ -29,7 +35,8 @@ pub use ending::counted;
 pub use events::{random_events, sending, EDGES};
 pub use files::{lines, CaptureFile, Files};
 pub use folder::Folder;
-pub use printed::{End, Printed};
+pub use form::{ANSWER, PACKETS};
+pub use printed::{End, Fed, Printed};
 pub use random::Random;
 pub use rounding::{rounding_case, rounding_cases, WRONG_CHARGES};
 pub use show::difference;

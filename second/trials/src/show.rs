@@ -4,7 +4,7 @@ use std::io::Result;
 
 use crate::captures::parts;
 use crate::shrink::shrink;
-use crate::{lines, Bench, Both, End, Files, Printed};
+use crate::{lines, Bench, Both, Files, Printed, Program};
 
 /// Lines of a file or an output that are shown at most.
 const MOST_LINES: usize = 60;
@@ -23,20 +23,20 @@ pub fn difference(bench: &Bench, files: &Files) -> Result<String> {
 }
 
 fn text(files: &Files, both: &Both) -> String {
-    let [proved, second] = &both.0;
+    let [proved, second] = &both.printed;
     let outputs = lines(&proved.output).into_iter().zip(lines(&second.output));
     let alike = outputs.take_while(|(one, other)| one == other).count();
     let arguments = match &files.capture {
         Some(capture) => Some(&capture.numbers),
         None => files.sheet.as_ref(),
     };
-    let list = match (&files.capture, &files.sheet) {
-        (Some(capture), _) => {
-            let digits = capture.bytes.as_deref().map(in_digits);
-            file("the capture, in hexadecimal digits", &digits)
+    let list = match files.program() {
+        Program::Capture => {
+            let bytes = files.capture.as_ref().and_then(|c| c.bytes.as_deref());
+            file("the capture, in hexadecimal digits", &bytes.map(in_digits))
         }
-        (None, None) => file("the list", &files.events),
-        (None, Some(_)) => String::new(),
+        Program::Replay => file("the list", &files.events),
+        Program::Promise | Program::Table => String::new(),
     };
     [
         file("the table", &files.table),
@@ -68,16 +68,14 @@ fn in_digits(bytes: &[u8]) -> Vec<u8> {
     lines.collect::<String>().into_bytes()
 }
 
+/// The end too, since it says whether the rest is as it must be.
 fn printed(name: &str, printed: &Printed, alike: usize) -> String {
-    let output = shown(&printed.output, alike);
-    let mut text = format!("--- {name}, standard output\n{output}");
-    if !printed.error.is_empty() {
-        text += &format!("--- {name}, standard error\n{}", shown(&printed.error, 0));
-    }
-    if printed.end != End::Status(0) {
-        text += &format!("--- {name} ended otherwise: {:?}\n", printed.end);
-    }
-    text
+    let Printed { output, error, end } = printed;
+    let [output, error] = [shown(output, alike), shown(error, 0)];
+    format!(
+        "--- {name} ended with {end:?}, standard output\n{output}\
+         --- {name}, standard error\n{error}"
+    )
 }
 
 /// The lines, with other bytes than plain characters spelt out; of many lines those
@@ -106,7 +104,59 @@ fn shown(bytes: &[u8], alike: usize) -> String {
 #[cfg(test)]
 mod tests {
     use super::*;
-    use crate::captures::{Capture, LAYOUTS};
+    use crate::captures::{Capture, CaptureCase, LAYOUTS};
+    use crate::{even_table, Asked, Case, End, Fed};
+
+    /// What is shown where the programs differ in the status alone.
+    fn shown_of(files: &Files) -> String {
+        let printed = |status| Printed {
+            output: b"o\r\n".to_vec(),
+            error: b"e\n".to_vec(),
+            end: End::Status(status),
+        };
+        let asked = Asked {
+            program: files.program(),
+            arguments: Vec::new(),
+            fed: Fed::Nothing,
+        };
+        let printed = [printed(1), printed(0)];
+        text(files, &Both { asked, printed })
+    }
+
+    #[test]
+    fn the_files_of_each_program_are_shown_and_both_ends() {
+        let list = Files::of(&Case {
+            rows: even_table(&[1]),
+            events: Vec::new(),
+        });
+        let table = "--- the table\nidentifier,parent,share\\r\n1,0,0\\r\n2,1,840\\r\n";
+        let ends = "--- the proved program ended with Status(1), standard output\no\\r\n\
+                    --- the proved program, standard error\ne\n\
+                    --- the second program ended with Status(0), standard output\no\\r\n\
+                    --- the second program, standard error\ne\n";
+        let expected = format!("{table}--- the list\nclass,length\n{ends}");
+        assert_eq!(shown_of(&list), expected);
+        let alone = Files {
+            events: None,
+            alone: true,
+            ..list
+        };
+        assert_eq!(shown_of(&alone), format!("{table}{ends}"));
+        let sheet = Files {
+            sheet: Some(vec!["7".into()]),
+            ..alone
+        };
+        let arguments = "--- arguments after the table: [\"7\"]\n";
+        assert_eq!(shown_of(&sheet), format!("{table}{arguments}{ends}"));
+        let case = CaptureCase {
+            capture: Capture::new(LAYOUTS[2], Vec::new()),
+            rows: even_table(&[1]),
+            classes: [2; 3],
+            rate: 1,
+        };
+        let capture = shown_of(&case.files());
+        assert!(capture.contains("--- the capture, in hexadecimal digits\na1b2c3d4"));
+    }
 
     #[test]
     fn odd_bytes_and_missing_ends_are_seen() {

@@ -361,6 +361,26 @@ mod tests {
     }
 
     #[test]
+    fn a_table_alone_is_cut_down_and_stays_alone() {
+        let files = Files {
+            events: None,
+            alone: true,
+            ..list()
+        };
+        let rows = lines(files.table.as_deref().expect("there is a table"));
+        let small = shrink(&files, &mut |files| {
+            let table = files.table.as_deref().unwrap_or_default();
+            files.alone && lines(table).contains(&rows[200])
+        });
+        let table = [b"identifier,parent,share\r\n".to_vec(), rows[200].clone()];
+        let expected = Files {
+            table: Some(table.concat()),
+            ..files.clone()
+        };
+        assert_eq!(small, expected);
+    }
+
+    #[test]
     fn a_missing_file_stays_missing() {
         let mut files = list();
         files.table = None;

@@ -1,15 +1,15 @@
 //! The program `capture` from its arguments to the bytes it prints.
 
-use std::ffi::{OsStr, OsString};
-use std::fs::File;
-use std::io::Read;
+use std::ffi::OsString;
 
 use crate::answer::Answer;
 use crate::capture::list::{Arrival, Trip};
+use crate::capture::refusals::Refusal;
 use crate::capture::{send, Capture};
 use crate::csv::LINE_END;
-use crate::print::answer_text;
-use crate::program::{cannot_read, read_argument, read_table, refusal, unreadable, Response};
+use crate::files::{at_fault, Source};
+use crate::print::answers_text;
+use crate::program::{read_argument, read_table, Response};
 use crate::run::MOST_EVENTS;
 use crate::slices::{EventRoom, Room, TableSlices};
 
@@ -21,13 +21,14 @@ pub fn respond(arguments: &[OsString]) -> Response {
     read_and_replay(arguments).unwrap_or_else(|said| said)
 }
 
-/// The error is what is said of arguments or files that are not taken to a replay.
+/// The error is what is said where there are no results.
 fn read_and_replay(arguments: &[OsString]) -> Result<Response, Response> {
-    let [capture_file, table_file, first, second, third, rate] = arguments else {
-        let line = b"cannot read: give a capture, a class table, three classes and a rate, \
-                     capture CAPTURE TABLE FIRST SECOND THIRD RATE\n";
-        return Err(Response::plain(line.to_vec()));
+    let [capture, table, first, second, third, rate] = arguments else {
+        let wanted = "give a capture, a class table, three classes and a rate, \
+                      capture CAPTURE TABLE FIRST SECOND THIRD RATE";
+        return Err(Response::misunderstood(wanted));
     };
+    let [capture_file, table_file] = Source::both(capture, table)?;
     let classes = [
         read_argument("FIRST", first)?,
         read_argument("SECOND", second)?,
@@ -41,36 +42,33 @@ fn read_and_replay(arguments: &[OsString]) -> Result<Response, Response> {
         classes,
         rate,
     };
-    Ok(replayed(&capture, &table.slices()))
+    let results = replay(&capture, &table.slices()).map_err(|refusal| {
+        let answer = refusal.answer();
+        let file = at_fault(answer.number, table_file, capture_file);
+        Response::refused(file, &[(answer, refusal.sentence(&table.slices()))])
+    })?;
+    Ok(Response::done(results))
 }
 
-/// One byte more than is allowed tells that there are too many.
-fn read_capture(file: &OsStr) -> Result<Vec<u8>, Response> {
-    let mut bytes = Vec::new();
-    File::open(file)
-        .and_then(|from| from.take(MOST_CAPTURE as u64 + 1).read_to_end(&mut bytes))
-        .map_err(|_| unreadable(file))?;
+fn read_capture(file: Source) -> Result<Vec<u8>, Response> {
+    let bytes = file.read(MOST_CAPTURE)?;
     if bytes.len() > MOST_CAPTURE {
         let why = format!(
             ": it has more than {MOST_CAPTURE} bytes; \
              cut its packets down, say with editcap -F pcap -s 64"
         );
-        return Err(cannot_read(file, &why));
+        return Err(Response::cannot_read(file.name(), &why));
     }
     Ok(bytes)
 }
 
-fn replayed(capture: &Capture, table: &TableSlices) -> Response {
+/// What a replay prints, or its refusal.
+fn replay(capture: &Capture, table: &TableSlices) -> Result<String, Refusal> {
     let mut room = Room::new(table.identifiers.len(), MOST_EVENTS);
     let mut list = [vec![0; MOST_EVENTS], vec![0; MOST_EVENTS]];
     let [classes, lengths] = &mut list;
-    match send(capture, table, EventRoom { classes, lengths }, room.lend()) {
-        Ok(trips) => {
-            let text = answer_text(&Answer::done(trips.len())) + &trips_text(&trips);
-            Response::plain(text.into_bytes())
-        }
-        Err(why) => refusal(&why.answer(), &why.sentence(table)),
-    }
+    let trips = send(capture, table, EventRoom { classes, lengths }, room.lend())?;
+    Ok(answers_text([&Answer::done(trips.len())]) + &trips_text(&trips))
 }
 
 /// The heading and a line for each packet, in sending order.

@@ -1,11 +1,11 @@
-//! Why a capture is refused: the answer, and one sentence for a person.
+//! Why a capture is refused: the answer, and its sentence for a person.
 
 use crate::answer::Answer;
 use crate::capture::records::Place;
 use crate::capture::MOST_RECORDS;
 use crate::events::MOST_BYTES;
-use crate::sentences::{not_sending_class, sentence};
-use crate::slices::{EventSlices, TableSlices};
+use crate::sentences::{not_sending_class, table_sentence};
+use crate::slices::TableSlices;
 
 /// A cause, with what its sentence names.
 pub enum Refusal {
@@ -77,9 +77,9 @@ impl Refusal {
         Answer::refused(number, place)
     }
 
-    /// The sentence for the refusal of a capture over this table.
+    /// How the sentence ends for the refusal of a capture over this table.
     pub fn sentence(&self, table: &TableSlices) -> String {
-        let said = match self {
+        match self {
             Refusal::Rate => "the rate is 0; give the bytes that the line carries in a second, \
                               from 1 to 4294967295."
                 .to_string(),
@@ -89,19 +89,10 @@ impl Refusal {
                 format!("the capture has {count} records; give it at most {MOST_RECORDS}.")
             }
             Refusal::Event(fault) => fault.said(table),
-            Refusal::Run(answer) => return run_sentence(answer, table),
-        };
-        format!("refused {}: {said}", self.answer().number)
+            // Of the table or of what is lent; events have words of their own here.
+            Refusal::Run(answer) => table_sentence(answer, table).unwrap_or_default(),
+        }
     }
-}
-
-/// Refusals of the table and of what is lent; their sentences say nothing of events.
-fn run_sentence(answer: &Answer, table: &TableSlices) -> String {
-    let events = EventSlices {
-        classes: &[],
-        lengths: &[],
-    };
-    sentence(answer, table, &events).unwrap_or_default()
 }
 
 fn name(place: Place) -> String {

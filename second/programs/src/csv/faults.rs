@@ -1,4 +1,4 @@
-//! A fault of a table's text: its answer, and one sentence for a person.
+//! A fault of a table's text: its answer, and its sentence for a person.
 
 use crate::answer::Answer;
 use crate::csv::writer::TABLE_HEADING;
@@ -28,10 +28,10 @@ impl Fault {
         Answer::refused(self.number, self.line)
     }
 
-    /// What is wrong with this text, and what to mend.
+    /// What is wrong with this text, and what to mend, as the end of a sentence.
     pub fn sentence(&self, text: &[u8]) -> String {
         let Fault { line, field, .. } = self;
-        let said = match (self.number, text.get(self.at)) {
+        match (self.number, text.get(self.at)) {
             (40, _) => "the text has more than 65536 bytes; no table has more than 4371: \
                         give it 2 to 256 rows."
                 .to_string(),
@@ -51,8 +51,7 @@ impl Fault {
                 "the text ends inside line {line}; \
                  end it with CR LF, and see that no line is missing."
             ),
-        };
-        format!("refused {}: {said}", self.number)
+        }
     }
 }
 

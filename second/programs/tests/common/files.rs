@@ -7,11 +7,12 @@ use std::process::Command;
 
 use super::{Event, Row};
 
-/// What a program printed; its exit status has been looked at.
+/// What a program printed, and the status that it ended with.
 #[derive(Debug, PartialEq, Eq)]
 pub struct Printed {
     pub output: String,
     pub error: String,
+    pub status: Option<i32>,
 }
 
 /// The text with CR LF at the end of each line, as tables and results have it.
@@ -24,12 +25,48 @@ pub fn results(output: &str) -> Printed {
     printed(&with_cr(output))
 }
 
-/// All of it on standard output.
+/// Results, as they are given.
 pub fn printed(output: &str) -> Printed {
     Printed {
         output: output.to_string(),
         error: String::new(),
+        status: Some(0),
     }
+}
+
+/// Refusals, as lines of numbers and of sentences with plain ends.
+pub fn refused(numbers: &str, sentences: &str) -> Printed {
+    Printed {
+        output: with_cr(&format!("answer,place,second,count\n{numbers}\n")),
+        error: format!("{sentences}\n"),
+        status: Some(1),
+    }
+}
+
+/// A sentence and nothing else.
+pub fn failed(sentence: &str) -> Printed {
+    Printed {
+        output: String::new(),
+        error: format!("{sentence}\n"),
+        status: Some(2),
+    }
+}
+
+/// The sentences with the names of this test's files for TABLE, EVENTS and CAPTURE.
+pub fn named(test: &str, sentences: &str) -> String {
+    let mut named = sentences.to_string();
+    for (word, end) in [
+        ("TABLE", "table"),
+        ("EVENTS", "events"),
+        ("CAPTURE", "pcap"),
+    ] {
+        let name = path(&format!("{test}.{end}"));
+        named = named.replace(
+            &format!(" in {word}: "),
+            &format!(" in {}: ", name.display()),
+        );
+    }
+    named
 }
 
 pub fn table_text(rows: &[Row]) -> String {
@@ -42,38 +79,50 @@ pub fn event_text(events: &[Event]) -> String {
     format!("class,length\n{}", lines.collect::<String>())
 }
 
-/// A file for the test of this name, in the build's own place for such files.
+/// Where a file of this name is or would be, in the build's own place for such files.
+pub fn path(name: &str) -> PathBuf {
+    PathBuf::from(env!("CARGO_TARGET_TMPDIR")).join(name)
+}
+
+/// A file for the test of this name.
 pub fn file(name: &str, bytes: &[u8]) -> PathBuf {
-    let path = PathBuf::from(env!("CARGO_TARGET_TMPDIR")).join(name);
+    let path = path(name);
     fs::write(&path, bytes).expect("the test's file can be written");
     path
 }
 
+pub const SECOND: &str = env!("CARGO_BIN_EXE_second");
+pub const PROMISE: &str = env!("CARGO_BIN_EXE_promise");
+pub const CAPTURE: &str = env!("CARGO_BIN_EXE_capture");
+pub const TABLE: &str = env!("CARGO_BIN_EXE_table");
+
 /// Runs `second` with these arguments.
 pub fn program<A: AsRef<OsStr>>(arguments: &[A]) -> Printed {
-    run(env!("CARGO_BIN_EXE_second"), arguments)
+    by(Command::new(SECOND).args(arguments))
 }
 
 /// Runs `promise` with these arguments.
 pub fn promise<A: AsRef<OsStr>>(arguments: &[A]) -> Printed {
-    run(env!("CARGO_BIN_EXE_promise"), arguments)
+    by(Command::new(PROMISE).args(arguments))
 }
 
 /// Runs `capture` with these arguments.
 pub fn capture<A: AsRef<OsStr>>(arguments: &[A]) -> Printed {
-    run(env!("CARGO_BIN_EXE_capture"), arguments)
+    by(Command::new(CAPTURE).args(arguments))
 }
 
-/// What a program prints; it must end with status 0.
-fn run<A: AsRef<OsStr>>(program: &str, arguments: &[A]) -> Printed {
-    let done = Command::new(program)
-        .args(arguments)
-        .output()
-        .expect("the program can be started");
-    assert_eq!(done.status.code(), Some(0));
+/// Runs `table` with these arguments.
+pub fn table<A: AsRef<OsStr>>(arguments: &[A]) -> Printed {
+    by(Command::new(TABLE).args(arguments))
+}
+
+/// What a program prints where its streams are not set otherwise; its input is empty then.
+pub fn by(command: &mut Command) -> Printed {
+    let done = command.output().expect("the program can be started");
     Printed {
         output: String::from_utf8_lossy(&done.stdout).into_owned(),
         error: String::from_utf8_lossy(&done.stderr).into_owned(),
+        status: done.status.code(),
     }
 }
 

@@ -1,5 +1,6 @@
 //! Helpers that the test files share: running a case over lent slices.
 
+pub mod calls;
 pub mod captures;
 pub mod files;
 pub mod texts;

@@ -10,7 +10,13 @@ use trials::captures::{Layout, LAYOUTS};
 use trials::Files;
 
 /// Captures lend slices that are long enough, and their lists have no finish too many.
-const NEVER: [&str; 4] = ["answer 3", "answer 14", "sheet", "sheet that outgrows"];
+const NEVER: [&str; 5] = [
+    "answer 3",
+    "answer 14",
+    "sheet",
+    "sheet that outgrows",
+    "tree",
+];
 
 /// How often each other answer is wanted among the captures of a default run.
 const WANTED: u64 = 8;

@@ -223,10 +223,11 @@ mod tests {
     use std::fs;
 
     use super::*;
+    use second::program::Response;
     use trials::{random_events, random_table, Case, Folder, Shape};
 
-    /// What the second program prints for these files on standard output.
-    fn output(folder: &Folder, files: &Files) -> String {
+    /// What the second program answers to these files.
+    fn response(folder: &Folder, files: &Files) -> Response {
         let path = |name: &str, bytes: &Option<Vec<u8>>| -> OsString {
             let path = folder.path().join(name);
             match bytes {
@@ -236,8 +237,7 @@ mod tests {
             path.into_os_string()
         };
         let arguments = [path("table", &files.table), path("events", &files.events)];
-        let response = second::program::respond(&arguments);
-        String::from_utf8_lossy(&response.output).into_owned()
+        second::program::respond(&arguments)
     }
 
     fn list(number: u64, disguised: bool) -> (Files, Random) {
@@ -253,9 +253,10 @@ mod tests {
     }
 
     /// Whether a text is answered with a fault of a table's.
-    fn is_fault(said: &str) -> bool {
-        let number = |n: u32| said.starts_with(&format!("answer,place,second,count\r\n{n},"));
-        (40..=47).any(number)
+    fn is_fault(said: &Response) -> bool {
+        let begins = |n: u32| format!("answer,place,second,count\r\n{n},");
+        let mut numbers = 40..=47;
+        said.status == 1 && numbers.any(|n| said.output.starts_with(begins(n).as_bytes()))
     }
 
     #[test]
@@ -266,10 +267,10 @@ mod tests {
                 let (mut files, mut random) = list(number, true);
                 let before = files.table.clone();
                 put_in(&mut files, *fault, &mut random);
-                let said = output(&folder, &files);
+                let said = response(&folder, &files);
                 let right = match files.table != before && *fault != Fault::Missing {
                     true => is_fault(&said),
-                    false => said.starts_with("cannot read"),
+                    false => said.status == 2 && said.error.starts_with(b"cannot read "),
                 };
                 assert!(right, "{fault:?} {files:?}");
             }
@@ -285,7 +286,7 @@ mod tests {
             let mut other = plain.clone();
             other.disguise(&mut random);
             changed += usize::from(other != plain);
-            assert_eq!(output(&folder, &plain), output(&folder, &other));
+            assert_eq!(response(&folder, &plain), response(&folder, &other));
         }
         assert!(changed > 50);
     }

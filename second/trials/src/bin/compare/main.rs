@@ -1,6 +1,7 @@
 //! The program `compare PROVED SECOND [SEED [LISTS]]`: two folders' programs over the same files.
 #![forbid(unsafe_code)]
 
+mod alone;
 mod answers;
 mod bytes;
 mod captured;
@@ -9,6 +10,7 @@ mod charged;
 mod edges;
 mod faults;
 mod identifiers;
+mod listed;
 mod octets;
 mod plan;
 mod sheets;
@@ -22,6 +24,7 @@ use std::process::ExitCode;
 use std::sync::atomic::{AtomicUsize, Ordering};
 use std::thread;
 
+use alone::table_trial;
 use bytes::{damaged_table, TEXTS};
 use captures::{capture_trial, AT_LIMIT};
 use octets::{damaged_capture, OCTETS};
@@ -35,6 +38,9 @@ const DEFAULT_LISTS: usize = 60 * ROUND_LISTS;
 /// For so many lists there is a capture.
 const LISTS_A_CAPTURE: usize = 5;
 
+/// For so many lists there is a table alone.
+const LISTS_A_TABLE: usize = 3;
+
 struct Settings {
     programs: [PathBuf; 2],
     seed: u64,
@@ -42,6 +48,8 @@ struct Settings {
     lists: usize,
     /// Besides the two at the limit of records.
     captures: usize,
+    /// Those that are asked for alone.
+    tables: usize,
     /// Those of one table, damaged byte by byte.
     texts: usize,
     /// Captures of two packets, damaged byte by byte.
@@ -53,19 +61,20 @@ enum Part {
     /// The last one has full size.
     List(usize),
     Capture(usize),
+    Table(usize),
     Text(usize),
     Octets(usize),
 }
 
 impl Settings {
     /// How many trials each part has.
-    fn parts(&self) -> [usize; 4] {
-        let captures = self.captures + AT_LIMIT;
-        [self.lists + 1, captures, self.texts, self.octets]
+    fn parts(&self) -> [usize; 5] {
+        let [lists, captures] = [self.lists + 1, self.captures + AT_LIMIT];
+        [lists, captures, self.tables, self.texts, self.octets]
     }
 
     fn part(&self, mut number: usize) -> Part {
-        let parts = [Part::List, Part::Capture, Part::Text];
+        let parts = [Part::List, Part::Capture, Part::Table, Part::Text];
         for (part, count) in parts.into_iter().zip(self.parts()) {
             if number < count {
                 return part(number);
@@ -92,6 +101,7 @@ fn settings(arguments: &[OsString]) -> Result<Settings> {
             seed,
             lists,
             captures: lists / LISTS_A_CAPTURE,
+            tables: lists / LISTS_A_TABLE,
             // Under other seeds they would be the same again.
             texts: if seed == DEFAULT_SEED { TEXTS } else { 0 },
             octets: if seed == DEFAULT_SEED { OCTETS } else { 0 },
@@ -107,6 +117,7 @@ fn numbered(settings: &Settings, number: usize) -> Trial {
     match settings.part(number) {
         Part::List(list) => trial(settings.seed, list, settings.lists),
         Part::Capture(capture) => capture_trial(settings.seed, capture, settings.captures),
+        Part::Table(table) => table_trial(settings.seed, table),
         Part::Text(text) => damaged_table(text),
         Part::Octets(capture) => damaged_capture(capture),
     }
@@ -115,9 +126,10 @@ fn numbered(settings: &Settings, number: usize) -> Trial {
 /// Compares all lists and prints what came of them; true if nothing failed.
 fn compare(settings: &Settings) -> Result<bool> {
     let folder = Folder::fresh("compare")?;
-    let [lists, captures, texts, octets] = settings.parts();
+    let [lists, captures, tables, texts, octets] = settings.parts();
     println!(
-        "seed {}, {lists} lists, {captures} captures, {texts} texts, {octets} damaged captures",
+        "seed {}, {lists} lists, {captures} captures, {tables} tables, {texts} texts, \
+         {octets} damaged captures",
         settings.seed
     );
     let mut tally = all_lists(settings, folder.path())?;
@@ -177,6 +189,7 @@ fn some_lists(
         match settings.part(number) {
             Part::List(_) => tally.add(number, both.agreed()),
             Part::Capture(_) => tally.add_capture(number, &trial.files, &both),
+            Part::Table(_) => tally.add_table(number, &both),
             Part::Text(_) => tally.add_text(number, both.agreed()),
             Part::Octets(_) => tally.add_octets(number, both.agreed()),
         }

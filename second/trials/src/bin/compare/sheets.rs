@@ -249,8 +249,10 @@ mod tests {
     #[test]
     fn wrong_arguments_cannot_be_read() {
         let wrong = answers(Manner::Arguments);
-        assert_eq!(begin(&wrong, "cannot read"), 300);
-        let said: BTreeSet<_> = wrong.iter().map(|answer| &answer.output).collect();
+        assert_eq!(begin(&wrong, "cannot read"), 0);
+        let unread = |a: &&Response| a.status == 2 && a.error.starts_with(b"cannot read");
+        assert_eq!(wrong.iter().filter(unread).count(), 300);
+        let said: BTreeSet<_> = wrong.iter().map(|answer| &answer.error).collect();
         // Two on LARGEST, OWN and PACKETS each, and that on how many arguments there are.
         assert_eq!(said.len(), 7);
     }

@@ -5,12 +5,13 @@ use crate::captured::Captured;
 use crate::charged::Charged;
 use crate::edges::Edges;
 use crate::identifiers::Identifiers;
+use crate::listed::Listed;
 use second::Choices;
 use trials::{Both, Case, Files};
 
 /// No list brings about answer 3, since the programs lend slices that are long enough, nor those of
-/// captures.
-const NEVER: [&str; 10] = [
+/// captures and of tables alone.
+const NEVER: [&str; 11] = [
     "answer 3",
     "answer 30",
     "answer 31",
@@ -21,6 +22,7 @@ const NEVER: [&str; 10] = [
     "answer 36",
     "answer 37",
     "answer 38",
+    "tree",
 ];
 
 /// How often each other answer is wanted among the lists of a default run.
@@ -41,6 +43,7 @@ pub struct Tally {
     identifiers: Identifiers,
     charged: Charged,
     captured: Captured,
+    listed: Listed,
     /// Texts of one table and captures of two packets, damaged byte by byte, on which the programs
     /// agree.
     texts: u64,
@@ -59,8 +62,15 @@ impl Tally {
 
     pub fn add_capture(&mut self, capture: usize, files: &Files, both: &Both) {
         match both.agreed() {
-            Some(answer) => self.captured.add(answer, files, &both.0[0].output),
+            Some(answer) => self.captured.add(answer, files, &both.printed[0].output),
             None => self.differing.push(capture),
+        }
+    }
+
+    pub fn add_table(&mut self, table: usize, both: &Both) {
+        match both.agreed() {
+            Some(answer) => self.listed.add(answer, &both.printed[0].output),
+            None => self.differing.push(table),
         }
     }
 
@@ -99,6 +109,7 @@ impl Tally {
     pub fn join(&mut self, other: Tally) {
         self.answers += other.answers;
         self.captured += other.captured;
+        self.listed += other.listed;
         self.texts += other.texts;
         self.octets += other.octets;
         self.choices += other.choices;
@@ -109,11 +120,12 @@ impl Tally {
     }
 
     pub fn passed(&self) -> u64 {
-        self.answers.sum() + self.captured.sum() + self.texts + self.octets
+        let numbered = [self.answers.sum(), self.captured.sum(), self.listed.sum()];
+        numbered.into_iter().sum::<u64>() + self.texts + self.octets
     }
 
     /// A line for each answer of a list, one each for choices, lengths, identifiers and shares, those
-    /// of captures, and one each for texts and captures damaged byte by byte.
+    /// of captures and of tables, and one each for texts and captures damaged byte by byte.
     pub fn text(&self) -> String {
         let answers = self.answers.texts(&NEVER).join("\n");
         let Choices {
@@ -123,13 +135,14 @@ impl Tally {
         } = self.choices;
         format!(
             "{answers}\nchoices: {made}, decided by the place: {by_place}, \
-             of these not the lowest row: {not_lowest}\n{}{}{}{}\
+             of these not the lowest row: {not_lowest}\n{}{}{}{}{}\
              texts of one table, damaged byte by byte: {}\n\
              captures of two packets, damaged byte by byte: {}\n",
             self.edges.text(),
             self.identifiers.text(),
             self.charged.text(),
             self.captured.text(),
+            self.listed.text(),
             self.texts,
             self.octets
         )
@@ -158,6 +171,7 @@ impl Tally {
             .chain(self.identifiers.shortages())
             .chain(self.charged.shortages())
             .chain(self.captured.shortages())
+            .chain(self.listed.shortages())
             .collect()
     }
 }
@@ -169,10 +183,13 @@ pub fn too_few(name: &str, count: u64, wanted: u64) -> Option<String> {
 
 #[cfg(test)]
 mod tests {
-    use second::MOST_BYTES;
-    use trials::{even_table, End, Event, Printed};
+    use std::fs;
 
     use super::*;
+    use crate::alone::table_trial;
+    use crate::{DEFAULT_LISTS, DEFAULT_SEED, LISTS_A_TABLE};
+    use second::MOST_BYTES;
+    use trials::{even_table, Asked, End, Event, Fed, Folder, Printed, Program};
 
     #[test]
     fn what_comes_up_too_seldom_is_named() {
@@ -183,6 +200,7 @@ mod tests {
             tally.identifiers.shortages(),
             tally.charged.shortages(),
             tally.captured.shortages(),
+            tally.listed.shortages(),
         ]
         .concat();
         assert_eq!(tally.shortages().len(), 2 + others.len());
@@ -206,29 +224,85 @@ mod tests {
         other.add_text(7, None);
         other.add_text(8, Some(41));
         other.add_octets(9, Some(30));
-        let said = "answer,place,second,count\r\n30,0,0,0\r\n";
-        other.add_capture(10, &Files::default(), &both([said, said]));
-        other.add_capture(11, &Files::default(), &both([said, ""]));
+        let rate = [("30", "refused 30: a.\n"); 2];
+        other.add_capture(10, &Files::default(), &both(Program::Capture, rate));
+        let unsaid = [rate[0], ("30", "")];
+        other.add_capture(11, &Files::default(), &both(Program::Capture, unsaid));
+        let row = [("8", "refused 8 in t: a.\n"); 2];
+        other.add_table(12, &both(Program::Table, row));
+        let nameless = [("8", "refused 8: a.\n"); 2];
+        other.add_table(13, &both(Program::Table, nameless));
         other.look_inside(&packet(1));
         other.look_inside(&packet(MOST_BYTES + 1));
         tally.join(other);
-        assert_eq!(tally.passed(), 4);
-        assert_eq!(tally.differing, [4, 2, 7, 11]);
+        assert_eq!(tally.passed(), 5);
+        assert_eq!(tally.differing, [4, 2, 7, 11, 13]);
         let text = tally.text();
         assert!(text.contains("choices: 2, "));
         assert!(text.contains("packets: 2, of length 1: 1, "));
         assert!(text.contains("refused for length 9001: 1\n"));
         assert!(text.contains("a class with a row's low bits: 0\nshares charged: 1 of 840\n"));
         assert!(text.contains(", answer 15: 0, answer 30: 1, answer 31: 0, "));
+        assert!(text.contains("\ntables answer 1: 0, answer 4: 0, answer 5: 0, answer 6: 0, "));
+        assert!(text.contains("answer 7: 0, answer 8: 1, answer 9: 0, "));
         assert!(text.contains("texts of one table, damaged byte by byte: 1\n"));
         assert!(text.ends_with("captures of two packets, damaged byte by byte: 1\n"));
     }
 
-    fn both(outputs: [&str; 2]) -> Both {
-        Both(outputs.map(|output| Printed {
-            output: output.as_bytes().to_vec(),
-            error: Vec::new(),
-            end: End::Status(0),
-        }))
+    /// The second program's answer to this table, as if both had given it.
+    fn both_of(files: &Files, folder: &Folder) -> Both {
+        let table = folder.path().join("table");
+        match &files.table {
+            Some(bytes) => fs::write(&table, bytes).expect("it can be written"),
+            None => drop(fs::remove_file(&table)),
+        }
+        let arguments = vec![table.into_os_string()];
+        let response = second::table_program::respond(&arguments);
+        let printed = Printed {
+            output: response.output,
+            error: response.error,
+            end: End::Status(response.status.into()),
+        };
+        let asked = Asked {
+            program: Program::Table,
+            arguments,
+            fed: Fed::Nothing,
+        };
+        let printed = [printed.clone(), printed];
+        Both { asked, printed }
+    }
+
+    #[test]
+    fn every_seed_has_enough_of_all_tables() {
+        let folder = Folder::fresh("tables").expect("a folder can be made");
+        for seed in [0, 1, DEFAULT_SEED] {
+            let mut tally = Tally::default();
+            for number in 0..DEFAULT_LISTS / LISTS_A_TABLE {
+                let files = table_trial(seed, number).files;
+                tally.add_table(number, &both_of(&files, &folder));
+            }
+            assert_eq!(tally.differing, [], "seed {seed}");
+            assert_eq!(
+                tally.listed.shortages(),
+                Vec::<String>::new(),
+                "seed {seed}"
+            );
+        }
+    }
+
+    /// Both programs refuse with a number and a sentence.
+    fn both(program: Program, said: [(&str, &str); 2]) -> Both {
+        let arguments = if program == Program::Table { 1 } else { 6 };
+        let asked = Asked {
+            program,
+            arguments: vec!["t".into(); arguments],
+            fed: Fed::Nothing,
+        };
+        let printed = said.map(|(number, sentence)| Printed {
+            output: format!("answer,place,second,count\r\n{number},0,0,0\r\n").into_bytes(),
+            error: sentence.as_bytes().to_vec(),
+            end: End::Status(1),
+        });
+        Both { asked, printed }
     }
 }

@@ -14,7 +14,8 @@ use std::time::{Duration, Instant};
 
 use damage::{damage, damage_capture};
 use trials::{
-    answer_name, counted, difference, folders, Bench, CaptureFile, Files, Folder, Random, ANSWERS,
+    answer_name, counted, difference, folders, Bench, CaptureFile, Files, Folder, Program, Random,
+    ANSWERS,
 };
 
 const DEFAULT_SEED: u64 = 1;
@@ -29,6 +30,14 @@ const SHEETS: [&[&[u8]]; 8] = [
     &[b"1", b"0", b"0"],
     &[b"2049"],
     &[b"9001"],
+];
+
+/// What a table without a capture is for, half of the time a list.
+const PROGRAMS_OF_TABLES: [Program; 4] = [
+    Program::Replay,
+    Program::Replay,
+    Program::Promise,
+    Program::Table,
 ];
 
 /// Bytes of an argument at most.
@@ -179,26 +188,30 @@ fn damaged_capture(own: &Example, capture: &[u8], other: &Example, random: &mut 
     }
 }
 
-/// A table with its list or as a sheet.
+/// A table with its list, as a sheet, or alone.
 fn damaged(own: &Example, other: &Example, random: &mut Random) -> Files {
     let (mut table, mut events) = (own.table.clone(), own.events.clone());
     let mut sheet: Vec<Vec<u8>> = random.pick(&SHEETS).iter().map(|a| a.to_vec()).collect();
-    let [is_sheet, gentle] = [random.one_in(3), random.one_in(2)];
+    let program = random.pick(&PROGRAMS_OF_TABLES);
+    let gentle = random.one_in(2);
     for _ in 0..random.pick(&[1, 1, 1, 2, 3, 8]) {
-        match (random.one_in(2), is_sheet) {
-            (true, _) => damage(&mut table, &other.table, gentle, random),
-            (false, false) => damage(&mut events, &other.events, gentle, random),
-            (false, true) => {
+        match (random.one_in(2), program) {
+            (true, _) | (false, Program::Table) => {
+                damage(&mut table, &other.table, gentle, random);
+            }
+            (false, Program::Promise) => {
                 let place = random.below(sheet.len());
                 damage(&mut sheet[place], SHEETS[2][1], gentle, random);
             }
+            (false, _) => damage(&mut events, &other.events, gentle, random),
         }
     }
     Files {
         table: Some(table),
-        events: (!is_sheet).then_some(events),
-        sheet: is_sheet.then(|| passed(sheet)),
+        events: (program == Program::Replay).then_some(events),
+        sheet: (program == Program::Promise).then(|| passed(sheet)),
         capture: None,
+        alone: program == Program::Table,
     }
 }
 

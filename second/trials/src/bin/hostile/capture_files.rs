@@ -4,15 +4,11 @@
 use crate::captures::{
     done, over_table, refused, small, small_done, with_number, NUMBERS, TOO_LONG,
 };
-use crate::plan::{bytes, plain, shown, special, values, Input, Trial, Wanted, TABLE};
+use crate::plan::{bytes, plain, shown, special, values, Input, Trial, Wanted, NO_FILE, TABLE};
 use trials::captures::{Capture, LAYOUTS, MOST_CAPTURE};
 use trials::Program;
 
 const MISSING: &str = "/no such folder/file";
-const IS_MISSING: &str = "/no such folder/file: it is missing or cannot be read\n";
-
-const USAGE: &str = "cannot read: give a capture, a class table, three classes and a rate, \
-                     capture CAPTURE TABLE FIRST SECOND THIRD RATE\n";
 
 /// Numbers of arguments that the program does not take.
 const COUNTS: [usize; 8] = [0, 1, 2, 4, 5, 7, 8, 1000];
@@ -31,11 +27,12 @@ pub fn files_and_arguments() -> Vec<Trial> {
     .collect()
 }
 
-fn whole() -> Input {
+/// A capture that is done.
+pub fn whole() -> Input {
     Input::Bytes(small(LAYOUTS[0]).bytes())
 }
 
-fn trial(name: &str, files: [Input; 2], numbers: [&str; 4], wanted: Option<Wanted>) -> Trial {
+pub fn trial(name: &str, files: [Input; 2], numbers: [&str; 4], wanted: Option<Wanted>) -> Trial {
     Trial {
         name: name.to_string(),
         program: Program::Capture,
@@ -47,10 +44,11 @@ fn trial(name: &str, files: [Input; 2], numbers: [&str; 4], wanted: Option<Wante
 /// Odd files in the place of the capture and in that of the table, and both swapped.
 fn files() -> Vec<Trial> {
     let mut all = Vec::new();
-    for (name, input) in special() {
+    for (name, input, wanted) in special() {
         let [capture, table] = [[input.clone(), bytes(TABLE)], [whole(), input]];
-        all.push(trial(&format!("capture: {name}"), capture, NUMBERS, None));
-        all.push(trial(&format!("table: {name}"), table, NUMBERS, None));
+        let named = format!("capture: {name}");
+        all.push(trial(&named, capture, NUMBERS, wanted.clone()));
+        all.push(trial(&format!("table: {name}"), table, NUMBERS, wanted));
     }
     let named = Input::Named("odd \t\n%s\u{e9}.pcap", small(LAYOUTS[0]).bytes());
     let end = |end: &str| Some(Wanted::End(end.to_string()));
@@ -104,6 +102,7 @@ fn several_files() -> Vec<Trial> {
     let end = |end: &str| Wanted::End(end.to_string());
     let one_row = bytes(&TABLE[..32]);
     let no_identifier = bytes(&TABLE.replacen("2,1", "0,1", 1));
+    let is_missing = format!("{MISSING}{NO_FILE}");
     let [missing, faulty, empty] = [plain(MISSING), bytes("x"), bytes("")];
     let long = Input::Bytes(vec![0; MOST_CAPTURE + 1]);
     let [rate, class] = [3, 0].map(|place| with_number(place, "0"));
@@ -111,10 +110,10 @@ fn several_files() -> Vec<Trial> {
     back.records[0].seconds = 1;
     let back = Input::Bytes(back.bytes());
     let pairs = [
-        ([&missing, &missing], NUMBERS, end(IS_MISSING)),
+        ([&missing, &missing], NUMBERS, end(&is_missing)),
         ([&long, &missing], NUMBERS, end(TOO_LONG)),
         ([&long, &faulty], rate, end(TOO_LONG)),
-        ([&empty, &missing], rate, end(IS_MISSING)),
+        ([&empty, &missing], rate, end(&is_missing)),
         ([&empty, &faulty], rate, refused(41, 1)),
         ([&empty, &one_row], rate, refused(30, 0)),
         ([&empty, &one_row], class, refused(31, 0)),
@@ -157,7 +156,7 @@ fn counts() -> Vec<Trial> {
         name: format!("{count} arguments"),
         program: Program::Capture,
         inputs: vec![plain("7"); count],
-        wanted: Some(Wanted::End(USAGE.to_string())),
+        wanted: None,
     };
     COUNTS.map(of).into()
 }

@@ -2,11 +2,10 @@
 //! trials share, and the file's header.
 
 use crate::capture_files::files_and_arguments;
-use crate::form::{ANSWER, PACKETS};
 use crate::plan::{bytes, plain, Input, Trial, Wanted, TABLE};
 use crate::records::odd_records;
 use trials::captures::{Capture, Layout, FILE_HEADER, LAYOUTS, RECORD_HEADER};
-use trials::Program;
+use trials::{Program, ANSWER, PACKETS};
 
 /// Classes of the table that send, and a rate under which a byte takes four fifths of a microsecond.
 pub const NUMBERS: [&str; 4] = ["4", "3", "5", "1250000"];

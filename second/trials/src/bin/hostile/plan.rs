@@ -5,12 +5,14 @@ use std::fmt;
 use std::os::unix::ffi::OsStrExt;
 
 use crate::captures::hostile_captures;
+use crate::drawn::tables_in_full;
 use crate::equal::equal_finishes;
 use crate::faulty::faulty_tables;
 use crate::identifiers::all_identifiers;
 use crate::long::longest_packets;
 use crate::rounding::close_finishes;
 use crate::shares::all_shares;
+use crate::standard::standard_inputs;
 use crate::texts::{damaged, lengthened, Text};
 use trials::{Case, Program};
 
@@ -18,8 +20,15 @@ pub const TABLE: &str =
     "identifier,parent,share\r\n1,0,0\r\n2,1,420\r\n3,1,420\r\n4,2,420\r\n5,2,420\r\n";
 pub const EVENTS: &str = "class,length\n4,100\n3,100\n5,100\n0,0\n0,0\n4,1500\n";
 
-/// Numbers of arguments that no program takes, and one far beyond.
-const MANY: [usize; 2] = [5, 1000];
+/// What a file called like standard input has in it.
+pub const NO_TABLE: &str = "x";
+
+/// How sentences on files that cannot be read end.
+pub const NO_FILE: &str = ": there is no such file\n";
+pub const IS_FOLDER: &str = ": it is a folder\n";
+
+/// Numbers of arguments, some of which no program takes, and one far beyond.
+const COUNTS: [usize; 7] = [0, 1, 2, 3, 4, 5, 1000];
 
 #[derive(Clone)]
 pub enum Input {
@@ -29,12 +38,19 @@ pub enum Input {
     Named(&'static str, Vec<u8>),
     /// A folder.
     Folder,
+    /// A link to itself, which the system refuses with an error that has no words of its own.
+    Circle,
     /// A file that may not be read.
     Unreadable,
     /// An argument as it is.
     Plain(OsString),
+    /// Standard input, which is this file or folder.
+    Standard(Box<Input>),
+    /// Standard input, by a pipe that has these bytes.
+    Piped(Vec<u8>),
 }
 
+#[derive(Clone)]
 pub struct Trial {
     pub name: String,
     pub program: Program,
@@ -49,6 +65,8 @@ pub enum Wanted {
     Answer([u32; 2]),
     /// These lines, each of which ends in CR LF.
     Lines(Vec<String>),
+    /// This on standard output, and this on standard error.
+    Text(String, String),
     /// A sentence that ends so.
     End(String),
 }
@@ -67,29 +85,37 @@ pub fn trials() -> Vec<Trial> {
     }
     for table in faulty_tables() {
         let wanted = Some(Wanted::Answer(table.answer));
-        let both = with_table(&table.name, Input::Bytes(table.bytes));
-        all.extend(both.map(|trial| Trial {
-            wanted: wanted.clone(),
-            ..trial
-        }));
+        let trials = with_table(&table.name, Input::Bytes(table.bytes));
+        all.extend(wanting(trials.into(), &wanted));
     }
     all.extend(table_before_events());
     for text in lists() {
         all.push(with_events(&text.name, Input::Bytes(text.bytes)));
     }
-    for (name, input) in special() {
-        all.extend(with_table(&name, input.clone()));
-        all.push(with_events(&name, input));
+    for (name, input, wanted) in special() {
+        let mut trials = with_table(&name, input.clone()).to_vec();
+        trials.push(with_events(&name, input));
+        all.extend(wanting(trials, &wanted));
     }
     all.extend(with_lists("equal finishes", equal_finishes()));
     all.extend(with_lists("longest packets", longest_packets()));
     all.extend(with_lists("share", all_shares()));
     all.extend(with_lists("rounding", close_finishes()));
     all.extend(with_lists("identifier", all_identifiers()));
+    all.extend(tables_in_full());
     all.extend(numbers_of_arguments());
     all.extend(sheet_arguments());
     all.extend(hostile_captures());
+    all.extend(standard_inputs());
     all
+}
+
+/// These, of which all must print the same.
+pub fn wanting(trials: Vec<Trial>, wanted: &Option<Wanted>) -> impl Iterator<Item = Trial> + '_ {
+    trials.into_iter().map(|trial| Trial {
+        wanted: wanted.clone(),
+        ..trial
+    })
 }
 
 fn tables() -> Vec<Text> {
@@ -112,7 +138,7 @@ pub fn plain(argument: impl AsRef<OsStr>) -> Input {
     Input::Plain(argument.as_ref().to_os_string())
 }
 
-fn with_table(name: &str, table: Input) -> [Trial; 2] {
+pub fn with_table(name: &str, table: Input) -> [Trial; 3] {
     let trial = |program, rest: Vec<Input>| Trial {
         name: format!("table: {name}"),
         program,
@@ -122,10 +148,11 @@ fn with_table(name: &str, table: Input) -> [Trial; 2] {
     [
         trial(Program::Replay, vec![bytes(EVENTS)]),
         trial(Program::Promise, ["1500", "6000", "40"].map(plain).to_vec()),
+        trial(Program::Table, Vec::new()),
     ]
 }
 
-fn with_events(name: &str, events: Input) -> Trial {
+pub fn with_events(name: &str, events: Input) -> Trial {
     Trial {
         name: format!("events: {name}"),
         program: Program::Replay,
@@ -137,8 +164,9 @@ fn with_events(name: &str, events: Input) -> Trial {
 /// Tables that are not there, faulty or refused, each with events that are not there or faulty.
 fn table_before_events() -> Vec<Trial> {
     let missing = plain("/no such folder/file.csv");
+    let no_file = Some(Wanted::End(NO_FILE.to_string()));
     let tables = [
-        ("a missing table", missing.clone(), None),
+        ("a missing table", missing.clone(), no_file),
         ("a faulty table", bytes("x"), Some(Wanted::Answer([41, 1]))),
         ("a refused table", bytes(&TABLE[..25]), None),
     ];
@@ -166,46 +194,86 @@ fn with_lists(what: &str, lists: Vec<(String, Case)>) -> impl Iterator<Item = Tr
     })
 }
 
-/// Files that are none, and names that are odd.
-pub fn special() -> Vec<(String, Input)> {
-    let long = "n".repeat(5000);
-    let odd: [(&str, &[u8]); 7] = [
-        ("missing", b"/no such folder/table.csv"),
-        ("a missing name with spaces", b" no such file "),
-        ("no bytes at all", b"/dev/null"),
-        ("a name of 5,000 bytes", long.as_bytes()),
-        ("an empty name", b""),
-        ("a name that is not text", b"\xff\xfe\x01"),
-        ("a name like an option", b"--help"),
+/// Odd names, and where there is no such file, what is said of it.
+const ODD: [(&str, &[u8], Option<&str>); 11] = [
+    ("missing", b"/no such folder/table.csv", Some(NO_FILE)),
+    ("below a file", b"/dev/null/table.csv", Some(NO_FILE)),
+    (
+        "a missing name with spaces",
+        b" no such file ",
+        Some(NO_FILE),
+    ),
+    (
+        "a missing name of two lines",
+        b"no such\nfile",
+        Some(NO_FILE),
+    ),
+    ("no bytes at all", b"/dev/null", None),
+    ("an empty name", b"", Some(NO_FILE)),
+    ("a name that is not text", b"\xff\xfe\x01", Some(NO_FILE)),
+    ("a name like an option", b"--help", Some(NO_FILE)),
+    ("two dashes", b"--", Some(NO_FILE)),
+    ("a dash and a blank", b"- ", Some(NO_FILE)),
+    ("a file called like standard input", b"./-", None),
+];
+
+/// Files with odd names, one of them a table with two refusals.
+const NAMED: [(&str, &str); 3] = [
+    ("a name  with spaces.csv", TABLE),
+    ("a name  with spaces.csv", EVENTS),
+    (
+        "odd \t\n%s\u{e9}.csv",
+        "identifier,parent,share\r\n0,0,0\r\n0,1,0\r\n",
+    ),
+];
+
+/// Files that are none, and names that are odd, with what is said where one cannot be read.
+pub fn special() -> Vec<(String, Input, Option<Wanted>)> {
+    let odd =
+        ODD.map(|(name, bytes, why)| (name.to_string(), plain(OsStr::from_bytes(bytes)), why));
+    let long = [256, 5000].map(|length| {
+        let name = format!("a name of {length} bytes");
+        (
+            name,
+            plain("n".repeat(length)),
+            Some(": its name is too long\n"),
+        )
+    });
+    let named = NAMED.map(|(file, text)| {
+        let input = Input::Named(file, text.as_bytes().to_vec());
+        let name = format!("{} bytes, called {file:?}", text.len());
+        (name, input, None)
+    });
+    let others = [
+        ("a folder", Input::Folder, IS_FOLDER),
+        (
+            "a link to itself",
+            Input::Circle,
+            ": the system refuses it with error 40\n",
+        ),
+        (
+            "an unreadable file",
+            Input::Unreadable,
+            ": this user may not read it\n",
+        ),
     ];
-    let mut inputs: Vec<(String, Input)> = odd
-        .into_iter()
-        .map(|(name, bytes)| (name.to_string(), plain(OsStr::from_bytes(bytes))))
-        .collect();
-    for text in [TABLE, EVENTS] {
-        let named = Input::Named("a name  with spaces.csv", text.as_bytes().to_vec());
-        inputs.push((format!("{} bytes, name with spaces", text.len()), named));
-    }
-    inputs.push(("a folder".to_string(), Input::Folder));
-    inputs.push(("an unreadable file".to_string(), Input::Unreadable));
-    inputs
+    let others = others.map(|(name, input, why)| (name.to_string(), input, Some(why)));
+    let all = odd.into_iter().chain(long).chain(named).chain(others);
+    let wanted = |why: &str| Wanted::End(why.to_string());
+    all.map(|(name, input, why)| (name, input, why.map(wanted)))
+        .collect()
 }
 
 fn numbers_of_arguments() -> Vec<Trial> {
-    let trial = |program, count: usize, text: &str| Trial {
+    let programs = [Program::Replay, Program::Promise, Program::Table];
+    let trial = |program, count: usize| Trial {
         name: format!("{count} arguments"),
         program,
-        inputs: vec![bytes(text); count],
+        inputs: vec![bytes(TABLE); count],
         wanted: None,
     };
-    let mut all = Vec::new();
-    for count in [0, 1].into_iter().chain(MANY) {
-        all.push(trial(Program::Replay, count, TABLE));
-        all.push(trial(Program::Promise, count, TABLE));
-    }
-    all.push(trial(Program::Replay, 3, TABLE));
-    all.push(trial(Program::Replay, 4, TABLE));
-    all
+    let all = |program| COUNTS.map(|count| trial(program, count));
+    programs.into_iter().flat_map(all).collect()
 }
 
 /// Short words that a number may be given as.

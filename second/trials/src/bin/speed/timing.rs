@@ -10,14 +10,14 @@ use trials::{Bench, Files, Times};
 
 /// Times of the two programs over the files, in milliseconds, after one run of each that is not measured.
 pub fn times(bench: &Bench, files: &Files, runs: usize) -> Result<[Times; 2]> {
-    let (program, arguments) = bench.lay(files)?;
-    if bench.over(program, &arguments)?.agreed() != Some(0) {
+    let both = bench.run(files)?;
+    if both.agreed() != Some(0) {
         return Err(Error::other("the two programs do not do the list alike"));
     }
     let mut times = [Times::default(), Times::default()];
     for _ in 0..runs {
-        for (program, times) in bench.paths(program).iter().zip(&mut times) {
-            times.add(measured(program, &arguments)?);
+        for (path, times) in bench.paths(both.asked.program).iter().zip(&mut times) {
+            times.add(measured(path, &both.asked.arguments)?);
         }
     }
     Ok(times)
