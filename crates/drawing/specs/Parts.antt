@@ -25,3 +25,8 @@ steps tree r = min (depth tree r) most-depth
 
 unfoldable pub of-line : Tree → ℕ → ℕ
 of-line tree r = hundredths * product tree (steps tree r) r / whole ^ steps tree r
+
+-- the shares on the way up from a row, so many steps, multiplied
+unfoldable pub shares-up : Tree → ℕ → ℕ → ℕ
+shares-up tree zero r = 1
+shares-up tree (suc steps) r = share tree r * shares-up tree steps (parent tree r)

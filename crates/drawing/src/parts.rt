@@ -5,6 +5,7 @@ ghost use Prim.Native.Nat.{_*_, _/_, _^_, _≤_, _<_, min};
 ghost use Rattle.input.specs.Limits.{whole, most-depth};
 ghost use Rattle.input.specs.Classes.{Tree};
 ghost use Rattle.drawing.specs.Parts as parts;
+ghost use Rattle.drawing.specs.Stated.{PartOfParent, PartOfLine};
 ghost use Rattle.drawing.specs.Wide.{split, most-high, value};
 use crate::Wide;
 use input::MOST_DEPTH;
@@ -23,15 +24,14 @@ const FOURTH: u64 = 497871360000;
 const SPLIT: u64 = 418211942400000;
 
 pub fn of_parent(share: u32) -> u64
-    ensures { λ r. ⌜ r ≡ parts.of-parent share ⌝ }
+    ensures { λ r. ⌜ PartOfParent share r ⌝ }
 {
     HUNDREDTHS * long(share) / PARTS
 }
 
 // The part of the line that a row has, from the parents, depths and shares of all rows.
 pub fn of_line(parents: &[u32], depths: &[u32], shares: &[u32], row: u32) -> u64
-    ensures { λ r. ⌜ ((tree : Tree) → tree .parents ≡ now (parents .entry) → tree .depths ≡ now (depths .entry) → tree .shares ≡ now (shares .entry)
-        → r ≡ parts.of-line tree row) ⌝ }
+    ensures { λ r. ⌜ PartOfLine (now (parents .entry)) (now (depths .entry)) (now (shares .entry)) row r ⌝ }
 {
     let steps = least(word(depths, row), MOST_DEPTH);
     let all = product(parents, shares, row, steps);

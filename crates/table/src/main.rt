@@ -15,9 +15,6 @@ use sentences::HELD_ROWS;
 // Room for the heading and for two answers of each row.
 const ANSWERS_BYTES: usize = 64 * (2 * MOST_ROWS + 1);
 
-// Most refusals have no second place.
-const NO_SECONDS: [u32; 1] = [0];
-
 // Room for the tree: no line has more than 56 bytes.
 const TREE_BYTES: usize = 64 * (MOST_ROWS + 1);
 
@@ -46,7 +43,7 @@ fn called() -> Status {
     status
 }
 
-// Judges the table, and draws it or gives all that is refused. The count of rows is that of the file, of which the slices may have less.
+// Judges the table and goes on. The count of rows is that of the file, of which the slices may have less.
 fn with_table<'a>(
     rows: u64,
     identifiers: &'a [u32],
@@ -55,32 +52,56 @@ fn with_table<'a>(
 ) -> Status {
     let judged = refusals::judge(identifiers, parents, shares);
     let refusal = judged.refusal;
+    let first = [refusal.number];
     let numbers = judged.numbers;
     let seconds = judged.seconds;
     let sums = judged.sums;
-    let mut page = [0u8; ANSWERS_BYTES];
-    let used = put_answers(&mut page, 0, &[refusal.number], &NO_SECONDS);
-    let used = put_answers(&mut page, used, &numbers, &seconds);
-    let used = put_answers(&mut page, used, &sums, &NO_SECONDS);
-    if used == 0 {
-        let above = judged.parents;
-        let depths = judged.depths;
-        let parts = judged.shares;
-        return draw(identifiers, &above, &depths, &parts);
-    }
-    if !files::print(&page, used) {
-        return Status::Failed;
-    }
-    tell_all(
-        &[refusal.number],
-        &NO_SECONDS,
+    let above = judged.parents;
+    let depths = judged.depths;
+    let parts = judged.shares;
+    give_or_draw(
+        &first,
+        &numbers,
+        &seconds,
+        &sums,
+        &above,
+        &depths,
+        &parts,
         rows,
         identifiers,
         parents,
         shares,
-    );
-    tell_all(&numbers, &seconds, rows, identifiers, parents, shares);
-    tell_all(&sums, &NO_SECONDS, rows, identifiers, parents, shares);
+    )
+}
+
+// Gives all that is refused: of the table before its rows are looked at, of the rows, and of the sums. Where that is nothing, draws the tree.
+fn give_or_draw<'a>(
+    first: &'a [u32],
+    numbers: &'a [u32],
+    seconds: &'a [u32],
+    sums: &'a [u32],
+    above: &'a [u32],
+    depths: &'a [u32],
+    parts: &'a [u32],
+    rows: u64,
+    identifiers: &'a [u32],
+    parents: &'a [u32],
+    shares: &'a [u32],
+) -> Status {
+    let none = [0u32; 1];
+    let mut page = [0u8; ANSWERS_BYTES];
+    let used = put_answers(&mut page, 0, first, &none);
+    let used = put_answers(&mut page, used, numbers, seconds);
+    let used = put_answers(&mut page, used, sums, &none);
+    if used == 0 {
+        return draw(identifiers, above, depths, parts);
+    }
+    if !files::print(&page, used) {
+        return Status::Failed;
+    }
+    tell_all(first, &none, rows, identifiers, parents, shares);
+    tell_all(numbers, seconds, rows, identifiers, parents, shares);
+    tell_all(sums, &none, rows, identifiers, parents, shares);
     Status::Refused
 }
 
@@ -97,11 +118,19 @@ fn draw<'a>(
         parents,
         depths,
         shares,
-        identifiers.len() as u32,
+        rows_of(identifiers),
     );
     if files::print(&page, used) {
         Status::Done
     } else {
         Status::Failed
     }
+}
+
+// How many rows an accepted table has.
+fn rows_of(identifiers: &[u32]) -> u32 {
+    if identifiers.len() < HELD_ROWS {
+        return identifiers.len() as u32;
+    }
+    MOST_ROWS as u32
 }

@@ -6,14 +6,11 @@ use borrow.Author.Needs.{needs}
 use Rattle.capture.proofs.printing.print.Statement.{statement}
 use Rattle.capture.proofs.printing.print.Tie as tie
 
-returns : tie.Need-returns
-returns c = search needs
-
 print-heading-requires : tie.Need-print-heading-requires
 print-heading-requires c κs = search needs
 
-returns-2 : tie.Need-returns-2
-returns-2 c = search needs
+returns : tie.Need-returns
+returns c = search needs
 
 long-requires : tie.Need-long-requires
 long-requires c κs = search needs
@@ -35,18 +32,17 @@ first-requires-3 c κs = search needs
 
 print-packets-requires : tie.Need-print-packets-requires
 print-packets-requires c κs =
-    (c .before .before .before .before .before .before .before .before .before .before .before .before .pre .0, rw (c .before .before .first .ensures) (simp length-take (omega arith)))
+    (c .before .before .before .before .before .before .before .before .before .before .pre .0, rw (c .before .before .first .ensures) (simp length-take (omega arith)))
 
-returns-3 : tie.Need-returns-3
-returns-3 c = search needs
+returns-2 : tie.Need-returns-2
+returns-2 c = search needs
 
 pub print-spec : {M : Type 1} → statement M
 print-spec =
     tie.close
     (tie.spec
-    returns
     print-heading-requires
-    returns-2
+    returns
     long-requires
     mul-first
     first-requires
@@ -54,4 +50,4 @@ print-spec =
     first-requires-2
     first-requires-3
     print-packets-requires
-    returns-3)
+    returns-2)

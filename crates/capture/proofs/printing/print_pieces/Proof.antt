@@ -39,6 +39,9 @@ loop-again c = search needs
 returns-2 : tie.Need-returns-2 Inv-loop μ-loop
 returns-2 c = search needs
 
+returns-3 : tie.Need-returns-3 Inv-loop μ-loop
+returns-3 c = search needs
+
 pub print-pieces-spec : {M : Type 1} → statement M
 print-pieces-spec =
     tie.close
@@ -52,4 +55,5 @@ print-pieces-spec =
     add-from
     loop-less
     loop-again
-    returns-2)
+    returns-2
+    returns-3)
