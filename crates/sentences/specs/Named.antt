@@ -18,9 +18,9 @@ row-with identifier identifiers =
 unfoldable pub as-a-class : ℕ → ℕ → Bool
 as-a-class parent share = not (eqb parent 0) && not (eqb share 0)
 
--- the first row above this one that has its parent's identifier; the row itself where there is none
+-- the first row above this one that has its parent's identifier; the row itself where there is none, or past the table's end
 unfoldable pub parent-row : ℕ → List ℕ → ℕ → ℕ
-parent-row row identifiers parent = cond (ltb (length identifiers) row) row (place-of parent (take row identifiers))
+parent-row row identifiers parent = cond (ltb row (length identifiers)) (place-of parent (take row identifiers)) row
 
 -- whether a row, whose parent has this identifier, is a child of a row above it
 unfoldable pub child-of : ℕ → ℕ → List ℕ → ℕ → Bool

@@ -31,10 +31,10 @@ pub fn depth_of<'a>(row: u32, identifiers: &'a [u32], parents: &'a [u32]) -> u64
 fn parent_row(row: usize, identifiers: &[u32], parent: u32) -> usize
     ensures { λ r. ⌜ (r ≡ named.parent-row row (now (identifiers .entry)) parent) × (r ≤ row) ⌝ }
 {
-    if identifiers.len() < row {
-        return row;
+    if row < identifiers.len() {
+        return tables::row_of(&identifiers[..row], parent);
     }
-    tables::row_of(&identifiers[..row], parent)
+    row
 }
 
 // The shares of a row's children, added up.

@@ -9,23 +9,23 @@ use borrow.Author.Needs.{needs}
 use Rattle.sentences.proofs.children.parent_row.Statement.{statement}
 use Rattle.sentences.proofs.children.parent_row.Tie as tie
 
-returns : tie.Need-returns
-unfolding parent-row
-returns c = (rw (lt-ltb _ _ (c .if1 .taken)), omega arith)
-
 slice-aggregate-row-of : tie.Need-slice-aggregate-row-of
 slice-aggregate-row-of c = simp length-take (omega arith)
 
 row-of-requires : tie.Need-row-of-requires
 row-of-requires c κs = search needs
 
-returns-2 : tie.Need-returns-2
+returns : tie.Need-returns
 unfolding parent-row
-returns-2 c =
+returns c =
     let start = c .before .before .before .before in (
-      rw (le-ltb _ _ (c .before .before .if1 .left)) (c .row-of .ensures .0),
+      rw (lt-ltb _ _ (c .before .before .if1 .taken)) (c .row-of .ensures .0),
       omega (arith, c .row-of .ensures .1, length-take-most (start .args .row) (start .args .identifiers .now)),
     )
 
+returns-2 : tie.Need-returns-2
+unfolding parent-row
+returns-2 c = (rw (le-ltb _ _ (c .if1 .left)), omega arith)
+
 pub parent-row-spec : {M : Type 1} → statement M
-parent-row-spec = tie.close (tie.spec returns slice-aggregate-row-of row-of-requires returns-2)
+parent-row-spec = tie.close (tie.spec slice-aggregate-row-of row-of-requires returns returns-2)
