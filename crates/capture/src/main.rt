@@ -144,7 +144,7 @@ fn with_table<'a>(
     )
 }
 
-// Replays the packets and prints what came of it.
+// Replays the packets and goes on.
 fn replay<'a>(
     capture: &'a [u8],
     sorting: Sorting,
@@ -171,8 +171,39 @@ fn replay<'a>(
         lengths,
         &mut order,
     );
+    tell(
+        answer,
+        capture,
+        rate,
+        rows,
+        identifiers,
+        parents,
+        shares,
+        stamps,
+        classes,
+        lengths,
+        &order,
+    )
+}
+
+// Prints what came of a replay, done or refused, and answers how that ended.
+fn tell<'a>(
+    answer: Answer,
+    capture: &'a [u8],
+    rate: u32,
+    rows: u64,
+    identifiers: &'a [u32],
+    parents: &'a [u32],
+    shares: &'a [u32],
+    stamps: &'a [u64],
+    classes: &'a [u32],
+    lengths: &'a [u32],
+    order: &'a [u32],
+) -> Status
+    requires { ⌜ Stamped (now stamps) × (length (now classes) ≤ most-events) ⌝ }
+{
     if answer.number == 0 {
-        return printing::print(answer, rate, stamps, classes, lengths, &order);
+        return printing::print(answer, rate, stamps, classes, lengths, order);
     }
     refusals::tell(
         answer,
