@@ -1,0 +1,2 @@
+-- What the theorems on the live box speak of beside its rules.
+pub mod Holds
