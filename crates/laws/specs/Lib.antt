@@ -4,6 +4,7 @@ pub mod Moves
 pub mod Rounding
 pub mod Level
 pub mod Kept
+pub mod Sizes
 pub mod Named
 pub mod Choices
 pub mod History
