@@ -55,6 +55,10 @@ pub record Balanced (tree : Tree) (big : ℕ → ℕ) (a : Rows) (p t : ℕ) : T
   -- no child is too far behind
   pub behind : Behind (tree .rows) (weight tree p) (spare tree p) (mode tree a p t) (virtual a p) (big p)
 
+-- every level is balanced, whichever child it has taken
+abbrev pub Fair : Tree → (ℕ → ℕ) → Rows → Type 0
+Fair tree big a = (p t : ℕ) → Inner tree p → Taken tree a p t → Balanced tree big a p t
+
 -- ── the box ──
 
 -- a queue in arrival order, of packets that arrived at a place from `least` on and before `now`, with 1 to `most` bytes
@@ -87,7 +91,6 @@ pub record Kept (tree : Tree) (big : ℕ → ℕ) (now : ℕ) (box : Box) : Type
   pub heads-kept : (k : ℕ) → Sender tree k → HeadOf (box .rows) k (queue-of box k)
   pub held-sender : (k : ℕ) → Sender tree k → held-by box k ≡ length (queue-of box k)
   pub held-inner : (p : ℕ) → Inner tree p → held-by box p ≡ held-below tree box p
-  pub levels : (p t : ℕ) → Inner tree p → Taken tree (box .rows) p t → Balanced tree big (box .rows) p t
   -- what the rules never write
   pub sender-virtual : (k : ℕ) → Sender tree k → virtual (box .rows) k ≡ 0
   pub root-start : start (box .rows) 0 ≡ 0

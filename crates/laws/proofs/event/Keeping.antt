@@ -19,7 +19,7 @@ use Rattle.rules.specs.Refused.{idle}
 use Rattle.rules.specs.Promise.{within, for-part}
 use Rattle.laws.specs.Sound.{Sound, Kid, Inner, Sender, ArrivalFits}
 use Rattle.laws.specs.Moves.{SameHead, Settled}
-use Rattle.laws.specs.Kept.{Kept, InLine, HeadOf, held-below, Covered}
+use Rattle.laws.specs.Kept.{Kept, Fair, InLine, HeadOf, held-below, Covered}
 use Rattle.laws.specs.History.{Accepted, largest-for}
 use Rattle.rules.specs.Box.{line-class, left}
 use Rattle.laws.proofs.path.Tests.{cond-least}
@@ -32,10 +32,10 @@ use Rattle.laws.proofs.path.ArrivalPath.{arrives-full, arrives-settled,
 use Rattle.laws.proofs.path.DeparturePath.{NextFits, path-heads, departs-full, departs-settled, departs-class, departs-others, departs-quiet}
 use Rattle.laws.proofs.event.Turns.{class-at, turn}
 use Rattle.laws.proofs.event.Largest.{largest-covers, accepted-wider}
-pub use Rattle.laws.proofs.event.Outset.{fresh-kept}
+pub use Rattle.laws.proofs.event.Outset.{fresh-kept, fresh-fair}
 use Rattle.laws.proofs.event.Queues.{in-line-wider, in-line-joined, length-tail, head-in-line, idle-empty, busy-some, OneQueue, lines-after, heads-after, counts-after}
 use Rattle.laws.proofs.event.Holding.{sum-none, sum-term, OneMore, more-own, more-other, more-below, less-below}
-use Rattle.laws.proofs.event.OneEvent.{even, arrival-at, arrival-held, line-sender, left-line, left-next, departure-on, departure-off}
+use Rattle.laws.proofs.event.OneEvent.{arrival-at, arrival-held, line-sender, left-line, left-next, departure-on, departure-off}
 
 -- ── heads ──
 
@@ -192,14 +192,14 @@ module _ (tree : Tree) (sound : Sound tree) (big : ℕ → ℕ) (wider : (j : �
           (lines-after tree sound big now box kept k sender _ (arrival tree now k length box) arrival-queue)
           (heads-after tree sound big now box kept k sender _ (arrival tree now k length box) arrival-queue)
 
-      arrival-levels : (p : ℕ) → Inner tree p → Even tree big (arrival tree now k length box .rows) p
-      arrival-levels p inner =
+      pub arrival-fair : Fair tree big (box .rows) → Fair tree big (arrival tree now k length box .rows)
+      arrival-fair fair p t inner =
           ⊎-elim
           (λ still. still-even tree sound big wider (box .rows) (arrival tree now k length box .rows) (kept .settled) arrival-settled arrival-small p inner
-          still (even tree sound big now box kept p inner))
+          still (λ t. fair p t inner))
           (λ (c, move). arrival-even tree sound big wider (box .rows) (arrival tree now k length box .rows) (kept .settled) arrival-settled arrival-small p inner
-          k c move (even tree sound big now box kept p inner))
-          (arrival-at tree sound big now box kept k length sender some p inner)
+          k c move (λ t. fair p t inner))
+          (arrival-at tree sound big now box kept k length sender some p inner) t
 
     pub arrival-kept : (k length : ℕ) → Sender tree k → 0 < length → length ≤ big k → Kept tree big (suc now) (arrival tree now k length box)
     unfolding arrival
@@ -221,7 +221,6 @@ module _ (tree : Tree) (sound : Sound tree) (big : ℕ → ℕ) (wider : (j : �
           held-inner =
               λ p inner. more-below tree sound k sender box (arrival tree now k length box) (arrival-held tree sound big now box kept k length sender) p inner
               (kept .held-inner p inner);
-          levels = λ p t inner. arrival-levels k length sender some small p inner t;
           sender-virtual = λ j other. quiet .0 j other ∙ kept .sender-virtual j other;
           root-start = quiet .1 ∙ kept .root-start;
           root-finish = quiet .2 ∙ kept .root-finish;
@@ -290,17 +289,17 @@ module _ (tree : Tree) (sound : Sound tree) (big : ℕ → ℕ) (wider : (j : �
           (lines-after tree sound big now box kept (line-class box) class (left box) (departure tree box) departure-queue)
           (heads-after tree sound big now box kept (line-class box) class (left box) (departure tree box) departure-queue)
 
-      departure-levels : (p : ℕ) → Inner tree p → Even tree big (departure tree box .rows) p
-      departure-levels p inner = go (within tree p (line-class box)) refl
+      pub departure-fair : Fair tree big (box .rows) → Fair tree big (departure tree box .rows)
+      departure-fair fair p t inner = go (within tree p (line-class box)) refl t
         where
           go : (b : Bool) → within tree p (line-class box) ≡ b → Even tree big (departure tree box .rows) p
           go true on =
               let (c, move) = departure-on tree sound big now box kept busy p inner on in
               departure-even tree sound big wider (box .rows) (departure tree box .rows) (kept .settled) departure-settled departure-small p inner
-              (line-class box) c move (even tree sound big now box kept p inner)
+              (line-class box) c move (λ t. fair p t inner)
           go false off =
               still-even tree sound big wider (box .rows) (departure tree box .rows) (kept .settled) departure-settled departure-small p inner
-              (departure-off tree sound big now box kept busy p inner off) (even tree sound big now box kept p inner)
+              (departure-off tree sound big now box kept busy p inner off) (λ t. fair p t inner)
 
     pub departure-kept : head (box .rows) 0 ≢ 0 → Kept tree big (suc now) (departure tree box)
     unfolding departure
@@ -322,7 +321,6 @@ module _ (tree : Tree) (sound : Sound tree) (big : ℕ → ℕ) (wider : (j : �
           held-inner =
               λ p inner. less-below tree sound (line-class box) (class busy) (departure tree box) box (departure-held busy) p inner
               (kept .held-inner p inner);
-          levels = λ p t inner. departure-levels busy p inner t;
           sender-virtual = λ j other. quiet .0 j other ∙ kept .sender-virtual j other;
           root-start = quiet .1 ∙ kept .root-start;
           root-finish = quiet .2 ∙ kept .root-finish;
@@ -362,4 +360,28 @@ pub kept :
 unfolding for-part
 kept tree events n m earlier ok =
     kept-under tree events m ok (λ r. largest-for tree events r m) (accepted-wider tree events m ok)
+    (λ i before fits. largest-covers tree events (class-at tree events i) i m before (self-within tree (ok .sound) (class-at tree events i))) n earlier
+
+-- and fair
+pub fair-under :
+    (tree : Tree) (events : Events) (last : ℕ) → Accepted tree events last → (big : ℕ → ℕ)
+    → ((j : ℕ) → 0 < j → j < tree .rows → big j ≤ big (parent tree j))
+    → ((i : ℕ) → i < last → ArrivalFits tree (class-word events i) (length-word events i) → length-word events i ≤ big (class-at tree events i))
+    → (n : ℕ) → n ≤ last → Fair tree big (after tree events n .rows)
+unfolding after
+fair-under tree events last ok big wider small zero earlier = fresh-fair tree (ok .sound) big wider
+fair-under tree events last ok big wider small (suc n) earlier =
+    let before = kept-under tree events last ok big wider small n (omega arith) in
+    let fair = fair-under tree events last ok big wider small n (omega arith) in
+    turn tree events last ok n (omega arith) (λ next. Fair tree big (next .rows))
+    (λ is fits. arrival-fair tree (ok .sound) big wider n (after tree events n) before (class-at tree events n) (length-word events n)
+    (fits .sender) (fits .some-bytes) (small n (omega arith) fits) fair)
+    (λ is none busy. departure-fair tree (ok .sound) big wider n (after tree events n) before busy fair)
+
+pub fair :
+    (tree : Tree) (events : Events) (n m : ℕ) → n ≤ m → Accepted tree events m
+    → Fair tree (λ (r : ℕ). largest-for tree events r m) (after tree events n .rows)
+unfolding for-part
+fair tree events n m earlier ok =
+    fair-under tree events m ok (λ r. largest-for tree events r m) (accepted-wider tree events m ok)
     (λ i before fits. largest-covers tree events (class-at tree events i) i m before (self-within tree (ok .sound) (class-at tree events i))) n earlier

@@ -18,7 +18,6 @@ use Rattle.laws.specs.Kept.{InLine, Kept}
 use Rattle.rules.specs.Box.{line-class, left}
 use Rattle.laws.proofs.path.Tests.{cond-most}
 use Rattle.laws.proofs.tree.Paths.{along-at}
-use Rattle.laws.proofs.level.Levels.{Even}
 use Rattle.laws.proofs.path.ArrivalPath.{arrives-at}
 use Rattle.laws.proofs.path.DeparturePath.{NextFits, path-heads, departs-on, departs-off}
 use Rattle.laws.proofs.event.Queues.{in-line-tail, in-line-next}
@@ -42,10 +41,6 @@ pub mark-most : (on : Bool) (held now mark : ℕ) → mark ≤ now → marked on
 mark-most on held now mark before = cond-most on _ mark now (cond-most (eqb held 0) now mark now (omega arith) before) before
 
 module _ (tree : Tree) (sound : Sound tree) (big : ℕ → ℕ) (now : ℕ) (box : Box) (kept : Kept tree big now box) where
-  -- its levels are balanced
-  pub even : (p : ℕ) → Inner tree p → Even tree big (box .rows) p
-  even p inner t taken = kept .levels p t inner taken
-
   -- ── an arrival ──
 
   module _ (k length : ℕ) (sender : Sender tree k) where

@@ -11,7 +11,7 @@ use Rattle.input.specs.Classes.{Tree, zeros, parent, child}
 use Rattle.rules.specs.Box.{Packet, fresh, held-by, queue-of}
 use Rattle.laws.specs.Sound.{Sound}
 use Rattle.laws.specs.Moves.{Settled}
-use Rattle.laws.specs.Kept.{Kept, InLine, HeadOf, held-below}
+use Rattle.laws.specs.Kept.{Kept, InLine, HeadOf, held-below, Fair}
 use Rattle.laws.proofs.tree.Trees.{zeros-full}
 use Rattle.laws.proofs.level.Levels.{zero-even}
 use Rattle.laws.proofs.event.Holding.{sum-none}
@@ -77,8 +77,11 @@ module _ (tree : Tree) (sound : Sound tree) (big : ℕ → ℕ) (wider : (j : �
         heads-kept = λ k sender. subst (λ (q : List Packet). HeadOf (fresh .rows) k q) (sym (empty-queue k)) (zeros-at k);
         held-sender = λ k sender. zeros-at k ∙ sym (ap length (empty-queue k));
         held-inner = λ p inner. zeros-at p ∙ sym (fresh-below tree p);
-        levels = λ p t inner. zero-even tree sound big wider (fresh .rows) p inner zeros-at zeros-at zeros-at (zeros-at p) t;
         sender-virtual = λ k sender. zeros-at k;
         root-start = zeros-at 0;
         root-finish = zeros-at 0;
       }
+
+  pub fresh-fair : Fair tree big (fresh .rows)
+  unfolding fresh
+  fresh-fair p t inner = zero-even tree sound big wider (fresh .rows) p inner zeros-at zeros-at zeros-at (zeros-at p) t

@@ -17,7 +17,7 @@ use Rattle.rules.specs.Promise.{within, packets-for, bytes-for, finished-in, ho
 use Rattle.laws.specs.Sound.{Sound, Kid, Inner, Sender}
 use Rattle.laws.specs.Moves.{Still, ArrivalAt}
 use Rattle.laws.specs.Rounding.{rounding}
-use Rattle.laws.specs.Kept.{Kept, Ahead}
+use Rattle.laws.specs.Kept.{Kept, Ahead, Fair}
 use Rattle.laws.specs.History.{Accepted, largest-for, Keeps}
 use Rattle.rules.specs.Box.{line-class}
 use Rattle.laws.proofs.tree.Paths.{its-parent, parent-is-inner, parent-within}
@@ -26,8 +26,8 @@ use Rattle.laws.proofs.level.Modes.{not-root}
 use Rattle.laws.proofs.level.Levels.{arrival-ready, departure-ready}
 use Rattle.laws.proofs.event.Turns.{class-at, turn}
 use Rattle.laws.proofs.event.Largest.{parts-largest, accepted-wider}
-use Rattle.laws.proofs.event.OneEvent.{even, arrival-at, arrival-bytes, line-sender, line-length, departure-on, departure-off, bytes-on, bytes-off}
-use Rattle.laws.proofs.event.Keeping.{holds-none, departure-held, kept}
+use Rattle.laws.proofs.event.OneEvent.{arrival-at, arrival-bytes, line-sender, line-length, departure-on, departure-off, bytes-on, bytes-off}
+use Rattle.laws.proofs.event.Keeping.{holds-none, departure-held, kept, fair}
 use Rattle.laws.proofs.run.History.{holds-held}
 use Rattle.laws.proofs.share.Pace.{came-top, left-top, finishes-late}
 use Rattle.laws.proofs.share.Stretch.{head-at, finishes, finishes-on, stretch, bytes-in}
@@ -49,7 +49,7 @@ abbrev MustChoose : Box → Box → ℕ → Type 0
 MustChoose box next p = (bytes-of box p < bytes-of next p) ⊎ (held-by box p ≡ 0)
 
 module _ (tree : Tree) (sound : Sound tree) (big : ℕ → ℕ) (wider : (j : ℕ) → 0 < j → j < tree .rows → big j ≤ big (parent tree j)) where
-  module _ (now : ℕ) (box : Box) (well : Kept tree big now box) (p k : ℕ) (kid : Kid tree p k) where
+  module _ (now : ℕ) (box : Box) (well : Kept tree big now box) (fair : Fair tree big (box .rows)) (p k : ℕ) (kid : Kid tree p k) where
     inner : Inner tree p
     inner = parent-is-inner tree sound p k kid
 
@@ -80,7 +80,7 @@ module _ (tree : Tree) (sound : Sound tree) (big : ℕ → ℕ) (wider : (j : �
             let covers = came-top tree (box .rows) b p x (inr (c, at)) in
             let short = well .settled .no-length p (inner .inside) idle in
             let ready =
-            arrival-ready tree sound big wider (box .rows) b (well .settled) (later .settled) (later .heads-small) p inner x c at idle (even tree sound big now box well p inner) in
+            arrival-ready tree sound big wider (box .rows) b (well .settled) (later .settled) (later .heads-small) p inner x c at idle (λ t. fair p t inner) in
             record { passed = omega arith; ahead = ready .waiting k kid (not-root kid) has }
 
     module _ (busy : head (box .rows) 0 ≢ 0) where
@@ -96,7 +96,7 @@ module _ (tree : Tree) (sound : Sound tree) (big : ℕ → ℕ) (wider : (j : �
           go true on due =
               let (c, at) = departure-on tree sound big now box well busy p inner on in
               let ready =
-              departure-ready tree sound big wider (box .rows) b (well .settled) (later .settled) (later .heads-small) p inner (line-class box) c at (even tree sound big now box well p inner) in
+              departure-ready tree sound big wider (box .rows) b (well .settled) (later .settled) (later .heads-small) p inner (line-class box) c at (λ t. fair p t inner) in
               record { passed = left-top tree (box .rows) b p c (at .move); ahead = ready .waiting k kid (not-root kid) has }
           go false off (inl more) = let same = bytes-off tree sound big now box well busy p (inner .inside) off in absurd (omega arith)
           go false off (inr empty) = absurd (not-still b empty has (departure-off tree sound big now box well busy p inner off))
@@ -129,7 +129,7 @@ module _ (tree : Tree) (sound : Sound tree) (big : ℕ → ℕ) (wider : (j : �
     close has =
         let w = share tree k in
         let a = box .rows in
-        let near = finishes-late tree sound big wider now box well p k kid has in
+        let near = finishes-late tree sound big wider now box well fair p k kid has in
         let tagged = well .settled .tagged k (kid .positive) (kid .inside) has in
         let cost = charge-rounded w (head-length a k) (sound .share-allowed k (kid .positive) (kid .inside)) in
         let all : w * virtual a p ≤ w * (start a k + charge (head-length a k) w + ticks * big p) = mul-le-mul-left w (omega arith) in
@@ -154,14 +154,17 @@ module _ (tree : Tree) (events : Events) (last : ℕ) (ok : Accepted tree events
   well : (n : ℕ) → n ≤ last → Kept tree big n (box n)
   well n earlier = kept tree events n last earlier ok
 
+  even : (n : ℕ) → n ≤ last → Fair tree big (box n .rows)
+  even n earlier = fair tree events n last earlier ok
+
   chose :
       (p k i : ℕ) → Kid tree p k → i < last → head (box (suc i) .rows) k ≢ 0 → MustChoose (box i) (box (suc i)) p
       → Chose tree big (box i .rows) (box (suc i) .rows) p k
   chose p k i kid before =
       turn tree events last ok i before
       (λ next. Kept tree big (suc i) next → head (next .rows) k ≢ 0 → MustChoose (box i) next p → Chose tree big (box i .rows) (next .rows) p k)
-      (λ is fits. arrival-chose tree sound big wider i (box i) (well i (omega arith)) p k kid _ _ (fits .sender) (fits .some-bytes))
-      (λ is none busy. departure-chose tree sound big wider i (box i) (well i (omega arith)) p k kid busy)
+      (λ is fits. arrival-chose tree sound big wider i (box i) (well i (omega arith)) (even i (omega arith)) p k kid _ _ (fits .sender) (fits .some-bytes))
+      (λ is none busy. departure-chose tree sound big wider i (box i) (well i (omega arith)) (even i (omega arith)) p k kid busy)
       (well (suc i) before)
 
   ended : (p k j : ℕ) → Kid tree p k → j < last → bytes-of (box j) k < bytes-of (box (suc j)) k → Ended (box j) (box (suc j)) p k
@@ -170,7 +173,7 @@ module _ (tree : Tree) (events : Events) (last : ℕ) (ok : Accepted tree events
       (λ is fits more.
       let same = arrival-bytes tree sound big j (box j) (well j (omega arith)) (class-at tree events j) (length-word events j) (fits .sender) k in
       absurd (omega arith))
-      (λ is none busy. departure-ended tree sound big wider j (box j) (well j (omega arith)) p k kid busy)
+      (λ is none busy. departure-ended tree sound big wider j (box j) (well j (omega arith)) (even j (omega arith)) p k kid busy)
 
   -- ── the index ──
 
@@ -197,7 +200,7 @@ module _ (tree : Tree) (events : Events) (last : ℕ) (ok : Accepted tree events
       let first = chose p k i kid (omega arith) has-first due in
       let pace = stretch tree events last ok p k (suc i) j kid before (omega arith) keeps in
       let second = ended p k j kid inside finished in
-      let near = close tree sound big wider j (box j) (well j (omega arith)) p k kid has-second in
+      let near = close tree sound big wider j (box j) (well j (omega arith)) (even j (omega arith)) p k kid has-second in
       let one-more = finishes-on tree events last ok k (suc i) j (kid .inside) before inside in
       let fewer = second .one-fewer in
       let rounded =

@@ -16,7 +16,7 @@ use Rattle.rules.specs.Promise.{within}
 use Rattle.laws.specs.Sound.{Sound, Kid, Inner, Sender}
 use Rattle.laws.specs.Moves.{Settled, Still, Pick, ArrivalAt}
 use Rattle.laws.specs.Moves.{Arriving, joins, opens, Departing, renews, passes-on, empties}
-use Rattle.laws.specs.Kept.{Kept, Taken, none as nobody, one as somebody, Balanced, Ahead}
+use Rattle.laws.specs.Kept.{Kept, Taken, none as nobody, one as somebody, Balanced, Ahead, Fair}
 use Rattle.laws.specs.Rounding.{rounding}
 use Rattle.laws.specs.Pace.{OwnPace, WholePace, Paced}
 use Rattle.rules.specs.Box.{line-class}
@@ -200,11 +200,11 @@ module _ (tree : Tree) (sound : Sound tree) (big : ℕ → ℕ) (wider : (j : �
 
   -- a child with a head has started before the virtual time, or not long after it
   starts-early :
-      (now : ℕ) (box : Box) → Kept tree big now box → (p j : ℕ) → Kid tree p j → head (box .rows) j ≢ 0
+      (now : ℕ) (box : Box) → Kept tree big now box → Fair tree big (box .rows) → (p j : ℕ) → Kid tree p j → head (box .rows) j ≢ 0
       → share tree j * start (box .rows) j
       ≤ share tree j * virtual (box .rows) p + ticks * ((whole - share tree j) * big j) + share tree j * rounding (share tree j)
   unfolding Ahead
-  starts-early now box kept p j kid has = go (ℕ-discrete j (taken .0))
+  starts-early now box kept fair p j kid has = go (ℕ-discrete j (taken .0))
     where
       inner : Inner tree p
       inner = parent-is-inner tree sound p j kid
@@ -213,7 +213,7 @@ module _ (tree : Tree) (sound : Sound tree) (big : ℕ → ℕ) (wider : (j : �
       taken = taken-child (box .rows) (kept .settled) p inner
 
       balanced : Balanced tree big (box .rows) p (taken .0)
-      balanced = kept .levels p (taken .0) inner (taken .1)
+      balanced = fair p (taken .0) inner (taken .1)
 
       go :
           Dec (j ≡ taken .0)
@@ -227,27 +227,27 @@ module _ (tree : Tree) (sound : Sound tree) (big : ℕ → ℕ) (wider : (j : �
 
   -- and the virtual time is past its finish by one largest packet at most
   pub finishes-late :
-      (now : ℕ) (box : Box) → Kept tree big now box → (p j : ℕ) → Kid tree p j → head (box .rows) j ≢ 0
+      (now : ℕ) (box : Box) → Kept tree big now box → Fair tree big (box .rows) → (p j : ℕ) → Kid tree p j → head (box .rows) j ≢ 0
       → virtual (box .rows) p ≤ finish (box .rows) j + ticks * big p
-  finishes-late now box kept p j kid has =
+  finishes-late now box kept fair p j kid has =
       let inner = parent-is-inner tree sound p j kid in
       let (t, taken) = taken-child (box .rows) (kept .settled) p inner in
-      not-behind tree sound big wider (box .rows) p j t inner kid has taken (kept .levels p t inner taken)
+      not-behind tree sound big wider (box .rows) p j t inner kid has taken (fair p t inner taken)
 
   -- between two moments at both of which row j, a child of p, holds a packet, with its own pace kept and x packets finished: what p finished,
   -- times j's share, is at most what j finished, times the whole, and two largest packets of j's part, but for the largest packets and the
   -- heads at the ends, and the rounding of j's charges, counted in ticks
   pub line :
-      (one two : Box) (m n p j x : ℕ) → Kept tree big m one → Kept tree big n two → Kid tree p j
+      (one two : Box) (m n p j x : ℕ) → Kept tree big m one → Kept tree big n two → Fair tree big (one .rows) → Fair tree big (two .rows) → Kid tree p j
       → head (one .rows) j ≢ 0 → head (two .rows) j ≢ 0
       → OwnPace tree one two j x → WholePace one two p → bytes-of one j ≤ bytes-of two j
       → ticks * (share tree j * (bytes-of two p + head-length (two .rows) p + big j))
       ≤ ticks
       * (share tree j * (bytes-of one p + head-length (one .rows) p + big p) + whole * ((bytes-of two j - bytes-of one j) + 2 * big j))
       + share tree j * (rounding (share tree j) * (x + ticks-a-step))
-  line one two m n p j x kept-one kept-two kid has-one has-two own top grows =
+  line one two m n p j x kept-one kept-two fair-one fair-two kid has-one has-two own top grows =
       let allowed = sound .share-allowed j (kid .positive) (kid .inside) in
-      let late = finishes-late n two kept-two p j kid has-two in
+      let late = finishes-late n two kept-two fair-two p j kid has-two in
       let ends = kept-two .settled .tagged j (kid .positive) (kid .inside) has-two in
       let small = kept-two .heads-small j (kid .inside) in
       let rounded = charge-rounded (share tree j) (head-length (two .rows) j) allowed in
@@ -255,4 +255,4 @@ module _ (tree : Tree) (sound : Sound tree) (big : ℕ → ℕ) (wider : (j : �
       (charge (head-length (two .rows) j) (share tree j))
       (bytes-of one p + head-length (one .rows) p) (bytes-of two p + head-length (two .rows) p) (bytes-of one j) (bytes-of two j)
       x (big j) (big p)
-      (share-whole (share tree j) allowed) top (omega arith) (omega arith) own (starts-early m one kept-one p j kid has-one) grows
+      (share-whole (share tree j) allowed) top (omega arith) (omega arith) own (starts-early m one kept-one fair-one p j kid has-one) grows

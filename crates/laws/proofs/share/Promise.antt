@@ -23,7 +23,7 @@ use Rattle.laws.specs.History.{Accepted, largest-for, Keeps, Since}
 use Rattle.laws.proofs.tree.Paths.{its-parent, at-root, below-root, parent-is-inner}
 use Rattle.laws.proofs.event.Largest.{part-largest, accepted-wider}
 use Rattle.laws.proofs.event.Outset.{zeros-at}
-use Rattle.laws.proofs.event.Keeping.{busy-holds, kept}
+use Rattle.laws.proofs.event.Keeping.{busy-holds, kept, fair}
 use Rattle.laws.proofs.run.History.{holds-held}
 use Rattle.laws.proofs.run.Sent.{line-counted}
 use Rattle.laws.proofs.share.Pace.{line}
@@ -82,7 +82,8 @@ module _ (tree : Tree) (events : Events) (last : ℕ) (ok : Accepted tree events
       let first = kept tree events m last (omega arith) ok in
       let sure =
       line tree (ok .sound) _ (accepted-wider tree events last ok) (after tree events m) (after tree events n) m n p j _ first
-      (kept tree events n last earlier ok) kid (head-at tree events last ok m j (omega arith) (kid .inside) (keeps m (omega arith) order))
+      (kept tree events n last earlier ok) (fair tree events m last (omega arith) ok) (fair tree events n last earlier ok) kid
+      (head-at tree events last ok m j (omega arith) (kid .inside) (keeps m (omega arith) order))
       (head-at tree events last ok n j earlier (kid .inside) (keeps n order (omega arith))) (pace .own) (pace .top) (pace .grows) in
       let inner = parent-is-inner tree (ok .sound) p j kid in
       let small = mul-le-mul-left (share tree j) (first .heads-small p (inner .inside)) in

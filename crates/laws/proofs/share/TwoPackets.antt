@@ -19,14 +19,14 @@ use Rattle.rules.specs.Promise.{packets-for, finished-in, ticks-for}
 use Rattle.laws.specs.Sound.{Sound, Kid, Inner}
 use Rattle.laws.specs.Rounding.{rounding, rounded-ticks}
 use Rattle.laws.specs.Level.{Mode, waits, demand, Behind}
-use Rattle.laws.specs.Kept.{Kept, Taken, none as nobody, one as somebody, Balanced, Ahead, weight, spare, mode}
+use Rattle.laws.specs.Kept.{Kept, Taken, none as nobody, one as somebody, Balanced, Ahead, Fair, weight, spare, mode}
 use Rattle.laws.specs.History.{Accepted, largest-for, Keeps}
 use Rattle.laws.proofs.tree.Paths.{parent-is-inner}
 use Rattle.laws.proofs.tree.Trees.{charge-rounded, share-whole, share-rest}
 use Rattle.laws.proofs.level.Modes.{not-root, mode-waits, weight-kid}
 use Rattle.laws.proofs.event.Largest.{parts-largest, accepted-wider}
 use Rattle.laws.proofs.event.Holding.{sum-term}
-use Rattle.laws.proofs.event.Keeping.{kept}
+use Rattle.laws.proofs.event.Keeping.{kept, fair}
 use Rattle.laws.proofs.share.Pace.{taken-child, finishes-late}
 use Rattle.laws.proofs.share.Stretch.{head-at, stretch}
 
@@ -101,7 +101,9 @@ record Near (tree : Tree) (big : ℕ → ℕ) (a : Rows) (p j : ℕ) : Type 0 wh
       ≤ share tree j * virtual a p + scale * big p + share tree j * rounding (share tree j)
 
 module _ (tree : Tree) (sound : Sound tree) (big : ℕ → ℕ) (wider : (j : ℕ) → 0 < j → j < tree .rows → big j ≤ big (parent tree j)) where
-  module _ (now : ℕ) (box : Box) (well : Kept tree big now box) (p j : ℕ) (kid : Kid tree p j) (has : head (box .rows) j ≢ 0) where
+  module _
+      (now : ℕ) (box : Box) (well : Kept tree big now box) (fair : Fair tree big (box .rows)) (p j : ℕ) (kid : Kid tree p j)
+      (has : head (box .rows) j ≢ 0) where
     abbrev a : Rows
     a = box .rows
 
@@ -155,10 +157,10 @@ module _ (tree : Tree) (sound : Sound tree) (big : ℕ → ℕ) (wider : (j : �
 
     taken : Taken tree a p j → Near tree big a p j
     taken is =
-        let near = finishes-late tree sound big wider now box well p j kid has in
+        let near = finishes-late tree sound big wider now box well fair p j kid has in
         let late =
         behind-taken w (rounding w) (virtual a p) (start a j) (charge (head-length a j) w) (head-length a j) (big p) part small cost (omega (arith, tag)) in
-        let started = well .levels p j inner is .started kid in
+        let started = fair p j inner is .started kid in
         let times = mul-le-mul-left w started in
         let split = mul-add w (start a j) (ticks * head-length a p) in
         let swap = mul-left-comm w ticks (head-length a p) in
@@ -172,7 +174,7 @@ module _ (tree : Tree) (sound : Sound tree) (big : ℕ → ℕ) (wider : (j : �
           where
             by : Dec (j ≡ t) → Near tree big a p j
             by (yes same) = taken (subst (λ (u : ℕ). Taken tree a p u) (sym same) is)
-            by (no other) = waiting t other (well .levels p t inner is)
+            by (no other) = waiting t other (fair p t inner is)
 
 -- ── two moments ──
 
@@ -182,7 +184,7 @@ module _ (tree : Tree) (events : Events) (last : ℕ) (ok : Accepted tree events
       → Near tree (parts-largest tree events last) (after tree events i .rows) p j
   near-at i p j earlier kid holds =
       near tree (ok .sound) (parts-largest tree events last) (accepted-wider tree events last ok) i (after tree events i)
-      (kept tree events i last earlier ok) p j kid (head-at tree events last ok i j earlier (kid .inside) holds)
+      (kept tree events i last earlier ok) (fair tree events i last earlier ok) p j kid (head-at tree events last ok i j earlier (kid .inside) holds)
 
   -- what p finishes while its child j holds a packet, times j's share, is at most what j finishes, times the whole, and two largest
   -- packets of p's part, and the rounding of j's charges; in ticks
