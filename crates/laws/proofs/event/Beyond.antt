@@ -51,7 +51,7 @@ module _ (tree : Tree) (sound : Sound tree) (j : ℕ) (beyond : tree .rows ≤ j
       path-beyond f d (parent tree r) (set xs r (f r (getD xs r 0))) (sound .parent-row r positive inside) (omega arith)
       ∙ getD-set-other xs r j _ 0 (apart r inside)
 
-  along-beyond : (f : ℕ → ℕ → ℕ) (k : ℕ) (xs : List ℕ) → k < tree .rows → getD (along tree f k xs) j 0 ≡ getD xs j 0
+  pub along-beyond : (f : ℕ → ℕ → ℕ) (k : ℕ) (xs : List ℕ) → k < tree .rows → getD (along tree f k xs) j 0 ≡ getD xs j 0
   unfolding along
   along-beyond f k xs inside = path-beyond f (depth tree k) k xs inside refl
 
