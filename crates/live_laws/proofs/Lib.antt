@@ -2,3 +2,4 @@
 pub mod Queues
 pub mod Classless
 pub mod Unused
+pub mod Taking
