@@ -28,12 +28,12 @@ abbrev pub Even : Tree → (ℕ → ℕ) → Rows → ℕ → Type 0
 Even tree big a p = (t : ℕ) → Taken tree a p t → Balanced tree big a p t
 
 -- where p has no head it has taken nobody
-none-taken : (tree : Tree) (a : Rows) (p t : ℕ) → head a p ≡ 0 → Taken tree a p t → t ≡ 0
+pub none-taken : (tree : Tree) (a : Rows) (p t : ℕ) → head a p ≡ 0 → Taken tree a p t → t ≡ 0
 none-taken tree a p t no-head (none idles is) = is
 none-taken tree a p t no-head (one has kid same) = absurd (has no-head)
 
 -- two children of p with p's head are the same
-one-taken :
+pub one-taken :
     (tree : Tree) → Sound tree → (a : Rows) → Settled tree a → (p c e : ℕ) → head a p ≢ 0 → Kid tree p c → Kid tree p e → SameHead a p a c
     → SameHead a p a e → c ≡ e
 one-taken tree sound a settled p c e has kid-c kid-e same-c same-e =
@@ -43,6 +43,29 @@ one-taken tree sound a settled p c e has kid-c kid-e same-c same-e =
   where
     has-one : (j : ℕ) → SameHead a p a j → head a j ≢ 0
     has-one j same none-there = has (sym (same .packet-same) ∙ none-there)
+
+-- where p takes its child k, that is the one that it has taken
+pub picked : (tree : Tree) → Sound tree → (a b : Rows) → Settled tree b → (p k : ℕ) → Pick tree a b p k → (t : ℕ) → Taken tree b p t → t ≡ k
+picked tree sound a b after p k pick t (none no-head is) = absurd (pick .waiting (sym (pick .takes .packet-same) ∙ no-head))
+picked tree sound a b after p k pick t (one has kid same) =
+    let takes = pick .takes in
+    one-taken tree sound b after p t k has kid (pick .kid) same (record { packet-same = cc; length-same = cc; class-same = cc })
+
+-- where p keeps its head and the child u that it had taken stays as it is, u is the one that it has taken
+pub still-taken :
+    (tree : Tree) → Sound tree → (a b : Rows) → Settled tree b → (p u : ℕ) → head a p ≢ 0 → SameTop a b p → Kid tree p u → SameHead a p a u
+    → SameKid a b u → (t : ℕ) → Taken tree b p t → t ≡ u
+still-taken tree sound a b after p u has top kid same stays t (none no-head is) = absurd (has (sym (top .head-same .packet-same) ∙ no-head))
+still-taken tree sound a b after p u has top kid same stays t (one has-b kid-t same-t) =
+    one-taken tree sound b after p t u has-b kid-t kid same-t (record { packet-same = cc; length-same = cc; class-same = cc })
+
+-- where nothing happens at p's level, it had taken the child that it has
+pub was-taken : (tree : Tree) (a b : Rows) (p t : ℕ) → Still tree a b p → Taken tree b p t → Taken tree a p t
+was-taken tree a b p t still (none no-head is) = none (sym (still .top .head-same .packet-same) ∙ no-head) is
+was-taken tree a b p t still (one has kid same) =
+    let kept = still .kids t kid in
+    let top = still .top in
+    one (λ idles. has (top .head-same .packet-same ∙ idles)) kid (record { packet-same = cc; length-same = cc; class-same = cc })
 
 -- nobody is too far behind at p's level, with its rows in the modes m and its virtual time v
 abbrev Level : Tree → (ℕ → ℕ) → ℕ → (ℕ → Mode) → ℕ → Type 0
@@ -138,24 +161,11 @@ module _ (tree : Tree) (sound : Sound tree) (big : ℕ → ℕ) (wider : (j : �
         others : Others tree a b p 0
         others j kid other = still .kids j kid
 
-        was-taken : Taken tree b p t → Taken tree a p t
-        was-taken (none no-head is) = none (sym (still .top .head-same .packet-same) ∙ no-head) is
-        was-taken (one has kid same) =
-            let kept = still .kids t kid in
-            let top = still .top in
-            one (λ idles. has (top .head-same .packet-same ∙ idles)) kid (record { packet-same = cc; length-same = cc; class-same = cc })
-
         balanced : Balanced tree big a p t
-        balanced = even t (was-taken is-taken)
+        balanced = even t (was-taken tree a b p t still is-taken)
 
     -- p takes its child k
     module _ (k : ℕ) (pick : Pick tree a b p k) where
-      picked : (t : ℕ) → Taken tree b p t → t ≡ k
-      picked t (none no-head is) = absurd (pick .waiting (sym (pick .takes .packet-same) ∙ no-head))
-      picked t (one has kid same) =
-          let takes = pick .takes in
-          one-taken tree sound b after p t k has kid (pick .kid) same (record { packet-same = cc; length-same = cc; class-same = cc })
-
       -- it was in time, so that its finish is ahead by what the others have of its packet's pace
       pick-ahead : Ahead tree big b p k (finish b k)
       unfolding Ahead
@@ -231,7 +241,7 @@ module _ (tree : Tree) (sound : Sound tree) (big : ℕ → ℕ) (wider : (j : �
 
       pick-even : Ready 0 → Even tree big b p
       pick-even ready t is-taken =
-          subst (λ (u : ℕ). Balanced tree big b p u) (sym (picked t is-taken))
+          subst (λ (u : ℕ). Balanced tree big b p u) (sym (picked tree sound a b after p k pick t is-taken))
           (record {
             ahead-waiting = λ j kid other has. on j (start b j) (ready .waiting j kid (not-root kid) has);
             ahead-idle = λ j kid other idles. on j (finish b j) (ready .resting j kid (not-root kid) idles);
@@ -266,7 +276,7 @@ module _ (tree : Tree) (sound : Sound tree) (big : ℕ → ℕ) (wider : (j : �
         -- p has a head from a child u, which is not c; it is the one that b has
         joined : head a p ≢ 0 → SameTop a b p → (u : ℕ) → Kid tree p u → SameHead a p a u → Balanced tree big b p t
         joined has top u kid same =
-            subst (λ (e : ℕ). Balanced tree big b p e) (sym (is-u is-taken))
+            subst (λ (e : ℕ). Balanced tree big b p e) (sym (still-taken tree sound a b after p u has top kid same kept t is-taken))
             (same-taken u top (λ kid-u. kept) balanced
             (wakes c u (λ is. other (sym is)) (move .kid) (move .others) (move .none-before) (move .headed) balanced))
           where
@@ -278,12 +288,6 @@ module _ (tree : Tree) (sound : Sound tree) (big : ℕ → ℕ) (wider : (j : �
 
             balanced : Balanced tree big a p u
             balanced = even u (one has kid same)
-
-            is-u : Taken tree b p t → t ≡ u
-            is-u (none no-head is) = absurd (has (sym (top .head-same .packet-same) ∙ no-head))
-            is-u (one has-b kid-t same-t) =
-                let stays-u = kept in
-                one-taken tree sound b after p t u has-b kid-t kid same-t (record { packet-same = cc; length-same = cc; class-same = cc })
 
         go : Arriving tree a b p c → Balanced tree big b p t
         go (joins has top) =
