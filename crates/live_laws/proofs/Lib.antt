@@ -2,4 +2,7 @@
 pub mod Queues
 pub mod Classless
 pub mod Unused
+pub mod After
+pub mod Arriving
+pub mod Finishing
 pub mod Taking
