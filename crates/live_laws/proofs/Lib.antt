@@ -6,3 +6,4 @@ pub mod After
 pub mod Arriving
 pub mod Finishing
 pub mod Taking
+pub mod Outset
