@@ -20,7 +20,7 @@ use Rattle.laws.proofs.event.Sized.{arrival-sized, arrival-forward, arrival-mar
 use Rattle.live_rules.specs.Limits.{most-held, most-accepted}
 use Rattle.live_rules.specs.State.{Live, box-of, gone, events}
 use Rattle.live_rules.specs.Taking.{box-after, packets-after, accepted-after, took}
-use Rattle.live_laws.specs.Holds.{Fitting, Counted, Holds}
+use Rattle.live_laws.specs.Holds.{Counted, Holds}
 use Rattle.live_laws.specs.Unordered.{unordered}
 use Rattle.live_laws.proofs.Queues.{queues-joined, fitting-joined}
 use Rattle.live_laws.proofs.Classless.{arrival-classless}

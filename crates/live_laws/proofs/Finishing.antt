@@ -1,6 +1,6 @@
 -- The state after a finish that is not refused: the packet on the line is the first of its class's queue, and goes.
 -- Assumes nothing.
-use Prim.Native.Nat.{ℕ, suc, pred, _≤_, _<_}
+use Prim.Native.Nat.{ℕ, suc, pred}
 use mathlib.Core.Path.{_≡_, sym, subst, _∙_}
 use mathlib.Core.Logic.{_≢_}
 use mathlib.Core.List.{List, [], _∷_}
@@ -19,7 +19,7 @@ use Rattle.laws.proofs.event.Keeping.{class-head, departure-kept, departure-hel
 use Rattle.laws.proofs.event.Sized.{departure-sized, departure-forward, departure-marked}
 use Rattle.live_rules.specs.State.{Live, queue, box-of, gone, events}
 use Rattle.live_rules.specs.Taking.{box-after, packets-after, accepted-after, took}
-use Rattle.live_laws.specs.Holds.{Fitting, Counted, Holds}
+use Rattle.live_laws.specs.Holds.{Counted, Holds}
 use Rattle.live_laws.specs.Unordered.{unordered}
 use Rattle.live_laws.proofs.Queues.{Led, queues-without, without-length, fitting-without}
 use Rattle.live_laws.proofs.Classless.{departure-classless}
@@ -54,8 +54,10 @@ module _ (live : Live) (holds : Holds live) (busy : head (live .rows) 0 ≢ 0) w
   finish-box =
       let inside = line-class-sends .inside in
       let room = holds .counted .few-rows in
-      rw (queues-without (live .tree) (events live) (pred (head (live .rows) 0)) c 0 most-rows (live .packets) (omega arith) (holds .fitting) line-first,
-      queue-held live holds c inside)
+      rw (
+        queues-without (live .tree) (events live) (pred (head (live .rows) 0)) c 0 most-rows (live .packets) (omega arith) (holds .fitting) line-first,
+        queue-held live holds c inside,
+      )
 
   -- one packet less
   finish-shorter : suc (length (packets-after live Finish)) ≡ length (live .packets)

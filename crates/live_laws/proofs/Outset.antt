@@ -2,17 +2,15 @@
 -- Assumes nothing.
 use Prim.Native.Nat.{ℕ, zero, suc, _≤_, _<_}
 use mathlib.Core.Path.{_≡_, refl, sym, ap, subst, _∙_}
-use mathlib.Core.Bool.{cond}
 use mathlib.Core.List.{List, []}
 use native.Mathlib.Omega.{arith}
-use lib.Dec.{eqb}
 use lib.ListN.{length, getD, set, replicate, length-replicate}
 use lib.Seq.{getD-set-other, ext-getD}
 use Rattle.input.specs.Limits.{most-rows, most-bytes}
-use Rattle.input.specs.Classes.{Table, Tree, place-of, earlier, parent-of, zeros, with-row, read, tree-of, parent, share, row-of}
+use Rattle.input.specs.Classes.{Table, place-of, earlier, parent-of, zeros, with-row, read, tree-of, parent, share, row-of}
 use Rattle.input.specs.Refusals.{rows-refused, table-refused}
 use Rattle.input.proofs.Filled.{filled-length}
-use Rattle.rules.specs.Box.{Packet, Rows, Box, fresh}
+use Rattle.rules.specs.Box.{Packet, Box, fresh}
 use Rattle.laws.specs.Sound.{Sound}
 use Rattle.laws.specs.Kept.{Kept}
 use Rattle.laws.specs.Sizes.{Marked}
@@ -21,8 +19,8 @@ use Rattle.laws.proofs.tree.Trees as trees
 use Rattle.laws.proofs.tree.OnAir.{some-identifier, small, own-place}
 use Rattle.laws.proofs.event.Outset.{replicate-at, zeros-at, fresh-kept}
 use Rattle.laws.proofs.event.Sized.{fresh-sized, fresh-forward, fresh-marked}
-use Rattle.live_rules.specs.State.{Held, Live, queue, queues, box-of, gone, events, fresh-live}
-use Rattle.live_laws.specs.Holds.{Rowed, RowsRowed, Shaped, Treed, Fitting, Counted, Holds}
+use Rattle.live_rules.specs.State.{queue, queues, box-of, gone, events, fresh-live}
+use Rattle.live_laws.specs.Holds.{Rowed, Shaped, Treed, Fitting, Counted, Holds}
 use Rattle.live_laws.proofs.Queues.{queues-length, queues-at}
 use Rattle.live_laws.proofs.After.{largest}
 

@@ -10,7 +10,7 @@ use native.Mathlib.Omega.{arith}
 use lib.Dec.{eqb}
 use lib.ListN.{length, getD, set, length-set, length-append, List·getD-append}
 use lib.Seq.{getD-set-same, getD-set-other, getD-at, ext-getD}
-use borrow.Author.Tests.{eqb-true, eqb-false, eq-eqb, ne-eqb}
+use borrow.Author.Tests.{eq-eqb, ne-eqb}
 use Rattle.input.specs.Limits.{most-bytes}
 use Rattle.input.specs.Classes.{Tree}
 use Rattle.rules.specs.Box.{Packet}
@@ -185,9 +185,14 @@ pub fitting-wider :
     → Fitting tree limit least packets → Fitting tree limit′ least′ packets
 unfolding Fitting
 fitting-wider tree limit limit′ least least′ [] later earlier fits = tt
-fitting-wider tree limit limit′ least least′ (packet ∷ rest) later earlier fits =
-    (fits .0, fits .1, fits .2, omega (arith, fits .3), omega (arith, fits .4),
-    fitting-wider tree limit limit′ (suc (packet .name)) (suc (packet .name)) rest later (omega arith) (fits .5))
+fitting-wider tree limit limit′ least least′ (packet ∷ rest) later earlier fits = (
+  fits .0,
+  fits .1,
+  fits .2,
+  omega (arith, fits .3),
+  omega (arith, fits .4),
+  fitting-wider tree limit limit′ (suc (packet .name)) (suc (packet .name)) rest later (omega arith) (fits .5),
+)
 
 -- a packet of this event's name joins
 pub fitting-joined :
@@ -195,9 +200,14 @@ pub fitting-joined :
     → Fitting tree limit least packets → Fitting tree (suc limit) least (packets ++ record { class = k; length = length; name = limit } ∷ [])
 unfolding Fitting
 fitting-joined tree limit least k length [] earlier sender some small fits = (sender, some, small, earlier, omega arith, tt)
-fitting-joined tree limit least k length (packet ∷ rest) earlier sender some small fits =
-    (fits .0, fits .1, fits .2, fits .3, omega (arith, fits .4),
-    fitting-joined tree limit (suc (packet .name)) k length rest (fits .4) sender some small (fits .5))
+fitting-joined tree limit least k length (packet ∷ rest) earlier sender some small fits = (
+  fits .0,
+  fits .1,
+  fits .2,
+  fits .3,
+  omega (arith, fits .4),
+  fitting-joined tree limit (suc (packet .name)) k length rest (fits .4) sender some small (fits .5),
+)
 
 -- one goes
 pub fitting-without :

@@ -14,13 +14,13 @@ use Rattle.laws.specs.Sound.{ArrivalFits}
 use Rattle.laws.proofs.level.Heads.{has-true}
 use Rattle.laws.proofs.tree.Trees.{or-none, first-none, given-none, arrival-fits, finish-fits}
 use Rattle.live_rules.specs.Limits.{most-held, most-accepted}
-use Rattle.live_rules.specs.State.{Live, box-of, gone, events}
+use Rattle.live_rules.specs.State.{Live, box-of, events}
 use Rattle.live_rules.specs.Taking.{full-refused, event-refused, box-after, took}
 use Rattle.live_laws.specs.Holds.{Holds}
 use Rattle.live_laws.specs.Unordered.{unordered}
 use Rattle.live_laws.proofs.After.{After, after-holds}
-use Rattle.live_laws.proofs.Arriving.{arrival-after, arrival-gone}
-use Rattle.live_laws.proofs.Finishing.{finish-after, finish-gone}
+use Rattle.live_laws.proofs.Arriving.{arrival-after}
+use Rattle.live_laws.proofs.Finishing.{finish-after}
 
 -- ── not refused ──
 

@@ -1,18 +1,14 @@
 -- What an event leaves of the rows: lists as long as they were, and nothing written in rows out of use.
 -- Assumes nothing.
 use Prim.Native.Nat.{ℕ, suc, pred, _+_, _≤_, _<_}
-use mathlib.Core.Path.{_≡_, refl, sym, _∙_}
-use mathlib.Core.Logic.{_≢_}
+use mathlib.Core.Path.{_∙_}
 use mathlib.Core.Bool.{cond}
 use mathlib.Core.List.{List}
-use native.Mathlib.Omega.{arith}
 use lib.Dec.{eqb}
-use lib.ListN.{length, getD}
-use Rattle.input.specs.Limits.{most-rows}
 use Rattle.input.specs.Classes.{Tree, parent}
-use Rattle.rules.specs.Box.{Rows, Box, head, head-length, head-class, bytes-of, held-by, line-class}
+use Rattle.rules.specs.Box.{Rows, Box, head-length, bytes-of, held-by, line-class}
 use Rattle.rules.specs.Steps.{along, arrival, departure}
-use Rattle.laws.specs.Sound.{Sound, Sender}
+use Rattle.laws.specs.Sound.{Sound}
 use Rattle.laws.specs.Moves.{Full, SameRow}
 use Rattle.laws.proofs.tree.Paths.{along-length}
 use Rattle.laws.proofs.event.Beyond.{along-beyond, arrival-row, departure-row}
