@@ -336,6 +336,17 @@ module _ (tree : Tree) (sound : Sound tree) (big : ℕ → ℕ) (wider : (j : �
     step-kept word Finish passes small =
         departure-kept (has-true (box .rows) 0 (finish-fits tree now word box passes .1))
 
+    -- and a fair box is fair after it
+    pub step-fair :
+        (word : ℕ) (e : Event) → meeting-refused tree now word e (idle box) .number ≡ 0 → Covered tree big e → Fair tree big (box .rows)
+        → Fair tree big (step tree now e box .rows)
+    unfolding step Covered
+    step-fair word (Arrival class length) passes small =
+        let fits = arrival-fits tree sound now word class length (idle box) passes in
+        arrival-fair (row-of tree class) length (fits .sender) (fits .some-bytes) small
+    step-fair word Finish passes small =
+        departure-fair (has-true (box .rows) 0 (finish-fits tree now word box passes .1))
+
 -- ── a run ──
 
 -- after n accepted events the box is well kept, for any bound that grows up the tree and that no packet exceeds
