@@ -1,6 +1,6 @@
 -- What is counted along a path: which trees and boxes a contract speaks of, those that have the lent arrays in these places and
 -- whatever in the others; and how a row's entry is changed.
-use Prim.Native.Nat.{ℕ, _≤_, _<_}
+use Prim.Native.Nat.{ℕ, _≤_, _<_, _^_}
 use mathlib.Core.Bool.{cond}
 use mathlib.Core.Path.{_≡_}
 use mathlib.Core.List.{List, []}
@@ -14,6 +14,10 @@ use Rattle.rules.specs.Box.{Box}
 -- the entry of each row that there can be is at most m
 abbrev pub At-most : ℕ → List ℕ → Type 0
 At-most m xs = (r : ℕ) → r < most-rows → getD xs r 0 ≤ m
+
+-- bytes that a row has finished, at most: more than 2 ^ 31 packets have
+abbrev pub most-finished : ℕ
+most-finished = 2 ^ 45
 
 -- ── trees and boxes ──
 

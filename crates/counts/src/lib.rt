@@ -1,13 +1,13 @@
 // What the run counts along the tree's paths. Every array has an entry for each row that there can be.
 ghost use mathlib.Core.Path.{_≡_};
 ghost use mathlib.Core.List.{List};
-ghost use Prim.Native.Nat.{ℕ, suc, pred, _+_, _-_, _≤_, _<_, _^_};
+ghost use Prim.Native.Nat.{ℕ, suc, pred, _+_, _-_, _*_, _≤_, _<_, _^_};
 ghost use lib.ListN.{getD};
 ghost use Rattle.input.specs.Limits.{most-rows, most-depth};
 ghost use Rattle.input.specs.Classes.{Tree};
 ghost use Rattle.rules.specs.Box.{Box, head-class, head-length};
 ghost use Rattle.rules.specs.Steps.{arrival, departure};
-ghost use Rattle.counts.specs.Counts.{At-most, Paths, Counts, own, above, begun, changed};
+ghost use Rattle.counts.specs.Counts.{At-most, most-finished, Paths, Counts, own, above, begun, changed};
 use input::RowLongs;
 use input::RowWords;
 
@@ -88,7 +88,7 @@ pub fn enter(
 
 // Row r has finished so many bytes more, and holds one packet less.
 fn leave_at(bytes: &mut RowLongs, held: &mut RowWords, r: usize, length: u64)
-    requires { ⌜ r < most-rows ⌝ ∗ ⌜ getD (now bytes) r 0 ≤ 2 ^ 41 ⌝ ∗ ⌜ length < 2 ^ 32 ⌝ }
+    requires { ⌜ r < most-rows ⌝ ∗ ⌜ getD (now bytes) r 0 ≤ most-finished + most-depth * 2 ^ 32 ⌝ ∗ ⌜ length < 2 ^ 32 ⌝ }
     ensures { λ _. ⌜ now (bytes .exit) ≡ changed (λ i n. n + length) r (now (bytes .entry)) ⌝ }
     ensures { λ _. ⌜ now (held .exit) ≡ changed (λ i n. pred n) r (now (held .entry)) ⌝ }
 {
@@ -99,7 +99,7 @@ fn leave_at(bytes: &mut RowLongs, held: &mut RowWords, r: usize, length: u64)
 }
 
 // The finish of the line's packet, which is of class k and of this length, counted at every row on its path. Every parent is a
-// row, so no index is out of range; with at most 8 rows above k and at most 2^40 bytes finished no count overflows.
+// row, so no index is out of range; with at most 8 rows above k and at most 2^45 bytes finished no count overflows.
 pub fn leave(
     parents: &RowWords,
     depths: &RowWords,
@@ -108,7 +108,7 @@ pub fn leave(
     k: usize,
     length: u32,
 )
-    requires { ⌜ k < most-rows ⌝ ∗ ⌜ At-most (most-rows - 1) (now parents) ⌝ ∗ ⌜ getD (now depths) k 0 ≤ most-depth ⌝ ∗ ⌜ At-most (2 ^ 40) (now bytes) ⌝ }
+    requires { ⌜ k < most-rows ⌝ ∗ ⌜ At-most (most-rows - 1) (now parents) ⌝ ∗ ⌜ getD (now depths) k 0 ≤ most-depth ⌝ ∗ ⌜ At-most most-finished (now bytes) ⌝ }
     ensures { λ _. ⌜ ((tree : Tree) (box : Box) (since parent-since : List ℕ) →
         Paths tree (now (parents .entry)) (now (depths .entry)) →
         head-class (box .rows) 0 ≡ k →

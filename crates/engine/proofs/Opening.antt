@@ -1,6 +1,6 @@
 -- The run's first state and its last: arrays of zeros, a cleared working slice, and what is read of the box then.
 -- Assumes nothing.
-use Prim.Native.Nat.{ℕ, zero, suc, _^_, _<_}
+use Prim.Native.Nat.{ℕ, zero, suc, _<_}
 use mathlib.Core.Path.{_≡_, refl, sym, ap, _∙_}
 use mathlib.Core.List.{List, _++_}
 use native.Mathlib.Omega.{arith}
@@ -20,7 +20,7 @@ use Rattle.looking.specs.Arrays.{rows-of}
 use Rattle.choosing.specs.declared.Way.{Way}
 use Rattle.choosing.specs.Filed.{Filed}
 use Rattle.laws.proofs.run.Sizes.{since-below, parent-since-below}
-use Rattle.counts.specs.Counts.{At-most}
+use Rattle.counts.specs.Counts.{At-most, most-finished}
 use Rattle.report.specs.Shown.{Shown}
 use Rattle.report.specs.Lags.{Past}
 use Rattle.events.specs.Links.{last-word, Chain}
@@ -113,5 +113,5 @@ module _
     pub past-now : Past (tree .rows) (tree .parents) bytes since parent-since
     past-now = rw (← now .counts-are .bytes, ← now .counts-are .since, ← now .counts-are .parent-since) (past tree events fit)
 
-    pub bytes-now : At-most (2 ^ 40) bytes
+    pub bytes-now : At-most most-finished bytes
     bytes-now r inside = rw (← now .counts-are .bytes) (bytes-small tree events fit (count events) (omega arith) r)

@@ -16,7 +16,8 @@ use Rattle.laws.proofs.run.Sizes.{tags-below, heads-below, bytes-below, held-be
 use Rattle.laws.proofs.run.Unwritten.{nothing-beyond}
 use Rattle.heaps.specs.Heaps.{Forest}
 use Rattle.choosing.specs.declared.Way.{Way}
-use Rattle.hierarchy.specs.Sizes.{Small}
+use Rattle.hierarchy.specs.Sizes.{most-tag, Small}
+use Rattle.counts.specs.Counts.{most-finished}
 use Rattle.steps.specs.Ready.{Ready}
 use Rattle.events.specs.State.{Fit, Now}
 
@@ -35,22 +36,22 @@ module _ (tree : Tree) (events : Events) (fit : Fit tree events) (i : ℕ) (befo
       go (yes low) = inside r low
       go (no high) = omega (arith, beyond r (omega arith))
 
-  tags : i * (scale * most-bytes) ≤ 2 ^ 62
+  tags : i * (scale * most-bytes) ≤ most-tag
   tags = omega (arith, fit .few)
 
   small : Small (box .rows)
   small =
       let below = tags-below tree events i ok in
       record {
-        starts = all-rows (start (box .rows)) (2 ^ 62) (λ r inside. omega (arith, below .starts-below r inside, tags)) (λ r high. nothing-beyond tree events i ok r high .start-none);
-        finishes = all-rows (finish (box .rows)) (2 ^ 62) (λ r inside. omega (arith, below .finishes-below r inside, tags)) (λ r high. nothing-beyond tree events i ok r high .finish-none);
-        virtuals = all-rows (virtual (box .rows)) (2 ^ 62) (λ r inside. omega (arith, below .virtuals-below r inside, tags)) (λ r high. nothing-beyond tree events i ok r high .virtual-none);
+        starts = all-rows (start (box .rows)) most-tag (λ r inside. omega (arith, below .starts-below r inside, tags)) (λ r high. nothing-beyond tree events i ok r high .start-none);
+        finishes = all-rows (finish (box .rows)) most-tag (λ r inside. omega (arith, below .finishes-below r inside, tags)) (λ r high. nothing-beyond tree events i ok r high .finish-none);
+        virtuals = all-rows (virtual (box .rows)) most-tag (λ r inside. omega (arith, below .virtuals-below r inside, tags)) (λ r high. nothing-beyond tree events i ok r high .virtual-none);
         head-lengths = all-rows (head-length (box .rows)) most-bytes (λ r inside. heads-below tree events i r ok inside) (λ r high. nothing-beyond tree events i ok r high .length-none);
       }
 
-  pub bytes-small : (r : ℕ) → bytes-of box r ≤ 2 ^ 40
+  pub bytes-small : (r : ℕ) → bytes-of box r ≤ most-finished
   bytes-small =
-      all-rows (bytes-of box) (2 ^ 40) (λ r inside. omega (arith, bytes-below tree events i r ok inside, fit .few))
+      all-rows (bytes-of box) most-finished (λ r inside. omega (arith, bytes-below tree events i r ok inside, fit .few))
       (λ r high. nothing-beyond tree events i ok r high .bytes-none)
 
   held-small : (r : ℕ) → held-by box r ≤ 2 ^ 31

@@ -15,7 +15,7 @@ use Rattle.choosing.specs.Sizes.{Leeway, most-charge, most-passed, most-choice}
 use Rattle.words.proofs.Entries.{entry-set}
 use Rattle.input.proofs.Charges.{charge-most}
 use Rattle.choosing.proofs.Ticks.{less-leeway, next-start-leeway, raised-leeway, passed-leeway}
-use Rattle.hierarchy.specs.Sizes.{Small}
+use Rattle.hierarchy.specs.Sizes.{most-tag, Small}
 
 pub same-leeway : {n : ℕ} {rows next : Rows} → next ≡ rows → Leeway n rows → Leeway n next
 same-leeway same leeway = rw same leeway
@@ -97,7 +97,7 @@ chosen-leeway d tree why p rows next some same leeway =
     (less-leeway (d * most-choice) ((d - 1) * most-choice + most-choice) rows (omega arith) leeway) why p)
 
 -- small tags have the leeway for an event: a packet charged to its class and a choice at each row above it
-pub small-leeway : (n : ℕ) (rows : Rows) → n + 2 ^ 62 < 2 ^ 64 → Small rows → Leeway n rows
+pub small-leeway : (n : ℕ) (rows : Rows) → n + most-tag < 2 ^ 64 → Small rows → Leeway n rows
 small-leeway n rows few small =
     record {
       starts = λ i. let h = small .starts i in omega arith;

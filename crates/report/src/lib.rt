@@ -3,7 +3,7 @@
 ghost use mathlib.Core.Path.{_≡_};
 ghost use mathlib.Core.Bool.{cond, false};
 ghost use mathlib.Core.List.{[], _∷_};
-ghost use Prim.Native.Nat.{suc, _+_, _*_, _-_, _≤_, _<_, _^_};
+ghost use Prim.Native.Nat.{suc, _+_, _*_, _-_, _≤_, _<_};
 ghost use lib.ListN.{length, getD};
 ghost use lib.Seq.{sets};
 ghost use lib.IntN.{pos, _-ℤ_};
@@ -11,7 +11,7 @@ ghost use Rattle.input.specs.Limits.{most-rows, whole, report-words};
 ghost use Rattle.input.specs.Classes.{Tree};
 ghost use Rattle.rules.specs.Box.{Box};
 ghost use Rattle.rules.specs.Outcome.{report-of, lag, lags-of, over};
-ghost use Rattle.counts.specs.Counts.{At-most, Counts};
+ghost use Rattle.counts.specs.Counts.{At-most, most-finished, Counts};
 ghost use Rattle.report.specs.Shown.{Sending, Shown, row-words};
 ghost use Rattle.report.specs.Lags.{Shares, Past};
 use input::RowLongs;
@@ -119,7 +119,7 @@ pub fn write_report(
 
 // The lag of a row with this share, when its parent has finished so many bytes in its backlog and it so many itself.
 fn lag_of(share: u64, parent_bytes: u64, own_bytes: u64) -> i64
-    requires { ⌜ share ≤ whole ⌝ ∗ ⌜ «parent_bytes» ≤ 2 ^ 40 ⌝ ∗ ⌜ «own_bytes» ≤ 2 ^ 40 ⌝ }
+    requires { ⌜ share ≤ whole ⌝ ∗ ⌜ «parent_bytes» ≤ most-finished ⌝ ∗ ⌜ «own_bytes» ≤ most-finished ⌝ }
     ensures { λ r. ⌜ r ≡ pos (share * «parent_bytes») -ℤ pos (whole * «own_bytes») ⌝ }
 {
     let due = (share * parent_bytes) as i64;
@@ -137,7 +137,7 @@ fn lag_at(
     since: &RowLongs,
     parent_since: &RowLongs,
 ) -> i64
-    requires { ⌜ r < most-rows ⌝ ∗ ⌜ At-most (most-rows - 1) (now parents) ⌝ ∗ ⌜ At-most whole (now shares) ⌝ ∗ ⌜ At-most (2 ^ 40) (now bytes) ⌝
+    requires { ⌜ r < most-rows ⌝ ∗ ⌜ At-most (most-rows - 1) (now parents) ⌝ ∗ ⌜ At-most whole (now shares) ⌝ ∗ ⌜ At-most most-finished (now bytes) ⌝
         ∗ ⌜ Past (suc r) (now parents) (now bytes) (now since) (now «parent_since») ⌝ }
     ensures { λ z. ⌜ ((tree : Tree) (box : Box) →
         Shares tree (now (parents .entry)) (now (shares .entry)) →
@@ -169,7 +169,7 @@ pub fn write_lags(
     lags: &mut [i64],
 )
     requires { ⌜ rows ≤ most-rows ⌝ ∗ ⌜ rows ≤ length (now lags) ⌝ }
-    requires { ⌜ At-most (most-rows - 1) (now parents) ⌝ ∗ ⌜ At-most whole (now shares) ⌝ ∗ ⌜ At-most (2 ^ 40) (now bytes) ⌝
+    requires { ⌜ At-most (most-rows - 1) (now parents) ⌝ ∗ ⌜ At-most whole (now shares) ⌝ ∗ ⌜ At-most most-finished (now bytes) ⌝
         ∗ ⌜ Past rows (now parents) (now bytes) (now since) (now «parent_since») ⌝ }
     ensures { λ _. ⌜ ((tree : Tree) (box : Box) →
         Shares tree (now (parents .entry)) (now (shares .entry)) →

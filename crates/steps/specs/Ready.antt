@@ -6,11 +6,11 @@ use Rattle.input.specs.Limits.{most-depth}
 use Rattle.rules.specs.Box.{Rows}
 use Rattle.looking.specs.Arrays.{Inside}
 use Rattle.hierarchy.specs.Sizes.{Small}
-use Rattle.counts.specs.Counts.{At-most}
+use Rattle.counts.specs.Counts.{At-most, most-finished}
 
 pub record Ready (parents depths : List ℕ) (a : Rows) (bytes held : List ℕ) : Type 0 where
   pub inside : Inside parents
   pub shallow : (r : ℕ) → getD depths r 0 ≤ most-depth
   pub small : Small a
-  pub bytes-small : At-most (2 ^ 40) bytes
+  pub bytes-small : At-most most-finished bytes
   pub held-small : At-most (2 ^ 31) held

@@ -8,7 +8,7 @@ use lib.ListN.{getD}
 use Rattle.input.specs.Limits.{most-rows}
 use Rattle.words.proofs.Entries.{entry-set}
 use Rattle.rules.proofs.OnPath.{Remains, remains-all, remains-less, remains-last}
-use Rattle.counts.specs.Counts.{path-tree}
+use Rattle.counts.specs.Counts.{most-finished, path-tree}
 use Rattle.counts.proofs.Steps.{left}
 use Rattle.counts.proofs.leave.Statement.{statement}
 use Rattle.counts.proofs.leave.Tie as tie
@@ -19,7 +19,7 @@ Inv-loop parents depths bytes₀ held₀ k length long r₀ to-leave₀ bytes he
     × Remains (path-tree parents depths) (λ r n. n + length) k bytes₀ to-leave r bytes
     × Remains (path-tree parents depths) (λ r n. pred n) k held₀ to-leave r held
     × (to-leave ≤ 8)
-    × ((i : ℕ) → i < most-rows → getD bytes i 0 ≤ 2 ^ 40 + (8 - to-leave) * 2 ^ 32)
+    × ((i : ℕ) → i < most-rows → getD bytes i 0 ≤ most-finished + (8 - to-leave) * 2 ^ 32)
 
 abbrev μ-loop : tie.MeasureT-loop
 μ-loop parents depths bytes₀ held₀ k length long r₀ to-leave₀ bytes held r to-leave = to-leave
@@ -63,7 +63,7 @@ loop-again c =
       omega arith,
       λ i inside.
           rw (done .0)
-          (entry-set (λ (n : ℕ). n ≤ 2 ^ 40 + (8 - (at .loop .to-leave - 1)) * 2 ^ 32) (at .loop .bytes) (at .loop .r)
+          (entry-set (λ (n : ℕ). n ≤ most-finished + (8 - (at .loop .to-leave - 1)) * 2 ^ 32) (at .loop .bytes) (at .loop .r)
           (getD (at .loop .bytes) (at .loop .r) 0 + start .args .length) i
           (omega (arith, start .fits .length)) (omega (arith, at .loop .inv .4 i inside))),
     )

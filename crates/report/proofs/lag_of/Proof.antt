@@ -5,11 +5,12 @@ use native.Mathlib.Nat.{mul-le-mul}
 use native.Mathlib.Omega.{arith}
 use borrow.Author.Needs.{needs}
 use Rattle.input.specs.Limits.{whole}
+use Rattle.counts.specs.Counts.{most-finished}
 use Rattle.report.proofs.Signed.{difference-fits, read-difference, written-difference}
 use Rattle.report.proofs.lag_of.Statement.{statement}
 use Rattle.report.proofs.lag_of.Tie as tie
 
-product : (c : tie.Start) → c .args .share * c .args .parent-bytes ≤ whole * 2 ^ 40
+product : (c : tie.Start) → c .args .share * c .args .parent-bytes ≤ whole * most-finished
 product c = mul-le-mul (c .pre .0) (c .pre .1 .0)
 
 mul-due : tie.Need-mul-due
