@@ -38,7 +38,7 @@ module _ (live : Live) (holds : Holds live) (class size : ℕ) (fits : ArrivalFi
       let room = holds .counted .few-rows in
       rw (queues-joined (live .packets) (record { class = k; length = size; name = events live }) most-rows (omega arith), queue-held live holds k inside)
 
-  arrival-longer : length (packets-after live (Arrival class size)) ≡ suc (length (live .packets))
+  pub arrival-longer : length (packets-after live (Arrival class size)) ≡ suc (length (live .packets))
   unfolding packets-after
   arrival-longer =
       let longer = length-append (live .packets) (record { class = k; length = size; name = events live } ∷ []) in
@@ -98,7 +98,7 @@ module _ (live : Live) (holds : Holds live) (class size : ℕ) (fits : ArrivalFi
         sized =
             subst (λ (n : ℕ). Sized (live .tree) most-bytes n (arrival (live .tree) (events live) k size (box-of live) .rows)) (sym arrival-gone)
             (arrival-sized (live .tree) sound most-bytes (events live) (box-of live) (holds .kept) k size (fits .sender) (fits .some-bytes)
-            (gone live) (fits .few-bytes) (before-sized live holds));
+            (fits .few-bytes) (gone live) (before-sized live holds));
         forward =
             arrival-forward (live .tree) sound most-bytes (events live) (box-of live) (holds .kept) k size (fits .sender) (fits .some-bytes)
             (before-forward live holds);

@@ -37,12 +37,12 @@ module _ (live : Live) (holds : Holds live) (busy : head (live .rows) 0 ≢ 0) w
   abbrev c : ℕ
   c = head-class (live .rows) 0
 
-  line-class-sends : Sender (live .tree) c
+  pub line-class-sends : Sender (live .tree) c
   unfolding box-of
   line-class-sends = line-sender (live .tree) (holds .treed .sound) largest (events live) (box-of live) (holds .kept) busy
 
   -- the packet on the line is the first of its class's queue
-  line-first : Led (pred (head (live .rows) 0)) (queue (live .packets) c)
+  pub line-first : Led (pred (head (live .rows) 0)) (queue (live .packets) c)
   unfolding box-of
   line-first =
       let same = class-head (live .tree) (holds .treed .sound) (live .rows) (holds .kept .settled) 0 (holds .counted .some-rows) busy in
@@ -60,7 +60,7 @@ module _ (live : Live) (holds : Holds live) (busy : head (live .rows) 0 ≢ 0) w
       )
 
   -- one packet less
-  finish-shorter : suc (length (packets-after live Finish)) ≡ length (live .packets)
+  pub finish-shorter : suc (length (packets-after live Finish)) ≡ length (live .packets)
   unfolding packets-after
   finish-shorter = without-length (live .tree) (events live) (pred (head (live .rows) 0)) c 0 (live .packets) (holds .fitting) line-first
 

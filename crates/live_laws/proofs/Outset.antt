@@ -166,7 +166,7 @@ module _ (table : Table) (rows-ok : rows-refused table .number ≡ 0) (table-ok 
         kept = fresh-box-kept;
         classless = λ r inside none. zeros-at r;
         sized = fresh-sized (tree-of table) most-bytes;
-        forward = fresh-forward (tree-of table) most-bytes;
+        forward = fresh-forward (tree-of table);
         marked =
             subst (λ (box : Box). Marked (tree-of table) most-bytes 0 box) (sym (fresh-box table)) (fresh-marked (tree-of table) most-bytes);
       }

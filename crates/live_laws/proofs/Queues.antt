@@ -66,7 +66,7 @@ queues-one before after n k new inside here others =
 -- ── a packet joins ──
 
 -- as its queue has it
-abbrev queued : Held → Packet
+abbrev pub queued : Held → Packet
 queued packet = record { place = packet .name; length = packet .length }
 
 pub queue-own :
