@@ -102,6 +102,20 @@ module _ (tree : Tree) (sound : Sound tree) (j : ℕ) (beyond : tree .rows ≤ j
       then-same a next (up (depth tree k) tree Finished k next) j (headed-beyond Finished k inside a full (suc (packet .place)) (packet .length))
       (up-beyond Finished k inside next (new-head-full tree sound Finished k (suc (packet .place)) (packet .length) k inside a full))
 
+  -- the row over an event
+  pub arrival-row :
+      (place k length : ℕ) → k < tree .rows → (box : Box) → Full (box .rows) → SameRow (box .rows) (arrival tree place k length box .rows) j
+  unfolding arrival
+  arrival-row place k length inside box full = arrives-beyond place k length inside (box .rows) full
+
+  pub departure-row : (box : Box) → line-class box < tree .rows → Full (box .rows) → SameRow (box .rows) (departure tree box .rows) j
+  unfolding departure
+  departure-row box inside full =
+      let k = line-class box in
+      let idle = leaves tree k (box .rows) in
+      then-same (box .rows) idle (goes-on tree k (left box) idle) j (leaves-beyond k inside (box .rows))
+      (goes-on-beyond k (left box) inside idle (leaves-full tree sound (box .rows) full k inside))
+
   -- a box without anything there stays so over an event
   still-nothing : (one two : Box) → Nothing one j → SameRow (one .rows) (two .rows) j → bytes-of two j ≡ bytes-of one j → held-by two j ≡ held-by one j → Nothing two j
   still-nothing one two none same bytes held =
@@ -117,16 +131,12 @@ module _ (tree : Tree) (sound : Sound tree) (j : ℕ) (beyond : tree .rows ≤ j
   pub arrival-nothing : (place k length : ℕ) → k < tree .rows → (box : Box) → Full (box .rows) → Nothing box j → Nothing (arrival tree place k length box) j
   unfolding arrival
   arrival-nothing place k length inside box full none =
-      still-nothing box (arrival tree place k length box) none (arrives-beyond place k length inside (box .rows) full) refl
+      still-nothing box (arrival tree place k length box) none (arrival-row place k length inside box full) refl
       (along-beyond (λ r n. suc n) k (box .held) inside)
 
   pub departure-nothing : (box : Box) → line-class box < tree .rows → Full (box .rows) → Nothing box j → Nothing (departure tree box) j
   unfolding departure
   departure-nothing box inside full none =
-      let k = line-class box in
-      let idle = leaves tree k (box .rows) in
-      still-nothing box (departure tree box) none
-      (then-same (box .rows) idle (goes-on tree k (left box) idle) j (leaves-beyond k inside (box .rows))
-      (goes-on-beyond k (left box) inside idle (leaves-full tree sound (box .rows) full k inside)))
-      (along-beyond (λ r n. n + head-length (box .rows) 0) k (box .bytes) inside)
-      (along-beyond (λ r n. pred n) k (box .held) inside)
+      still-nothing box (departure tree box) none (departure-row box inside full)
+      (along-beyond (λ r n. n + head-length (box .rows) 0) (line-class box) (box .bytes) inside)
+      (along-beyond (λ r n. pred n) (line-class box) (box .held) inside)

@@ -9,7 +9,7 @@ use native.Mathlib.Omega.{arith}
 use lib.Dec.{ltb, eqb}
 use lib.ListN.{length, getD, take}
 use lib.Seq.{getD-take, length-take-le}
-use borrow.Author.Tests.{ltb-true, ltb-false, eq-eqb}
+use borrow.Author.Tests.{ltb-true, ltb-false, eqb-true, eqb-false, eq-eqb}
 use Rattle.input.specs.Limits.{most-identifier}
 use Rattle.input.specs.Classes.{Table, place-of, earlier, on-air}
 use Rattle.input.specs.Refusals.{nothing, doubled, root-refused, class-refused, row-refused, table-refused}
@@ -36,6 +36,18 @@ place-before x (y ∷ ys) (suc j) inside here = go (eqb x y) (place-before x ys 
     go true before = omega arith
     go false before = omega arith
 
+-- and where it is found it stands
+place-here : (x : ℕ) (ys : List ℕ) → place-of x ys < length ys → getD ys (place-of x ys) 0 ≡ x
+unfolding place-of
+place-here x [] inside = absurd (omega arith)
+place-here x (y ∷ ys) inside = go (eqb x y) refl (place-here x ys) inside
+  where
+    go :
+        (b : Bool) → eqb x y ≡ b → (place-of x ys < length ys → getD ys (place-of x ys) 0 ≡ x)
+        → cond b 0 (suc (place-of x ys)) < suc (length ys) → getD (y ∷ ys) (cond b 0 (suc (place-of x ys))) 0 ≡ x
+    go true same later inside = sym (eqb-true x y same)
+    go false other later inside = later (omega arith)
+
 -- nothing is doubled where an identifier has no earlier row
 doubled-none : (r other : ℕ) → doubled r other .number ≡ 0 → r ≤ other
 unfolding doubled
@@ -56,7 +68,17 @@ module _ (table : Table) (fine : table-refused table .number ≡ 0) where
   abbrev identifier : ℕ → ℕ
   identifier r = getD (table .identifiers) r 0
 
-  small : (r : ℕ) → r < rows → identifier r ≤ most-identifier
+  -- no identifier is 0, and none is too large
+  pub some-identifier : (r : ℕ) → r < rows → 0 < identifier r
+  unfolding row-refused root-refused class-refused
+  some-identifier zero inside =
+      let other = eqb-false (identifier 0) 0 (given-none _ _ _ (first-none _ (row-passes table fine 0 inside) .0)) in
+      omega arith
+  some-identifier (suc r) inside =
+      let other = eqb-false (identifier (suc r)) 0 (given-none _ _ _ (first-none _ (row-passes table fine (suc r) inside) .0)) in
+      omega arith
+
+  pub small : (r : ℕ) → r < rows → identifier r ≤ most-identifier
   unfolding row-refused root-refused class-refused
   small zero inside = ltb-false most-identifier _ (given-none _ _ _ (first-none _ (row-passes table fine 0 inside) .1 .0))
   small (suc r) inside = ltb-false most-identifier _ (given-none _ _ _ (first-none _ (row-passes table fine (suc r) inside) .1 .0))
@@ -79,6 +101,14 @@ module _ (table : Table) (fine : table-refused table .number ≡ 0) where
       go : (b : Bool) → ltb s r ≡ b → r ≤ s
       go true before = absurd (none-earlier r s inside (ltb-true s r before) (sym same))
       go false after = ltb-false s r after
+
+  -- so a row is found by its identifier
+  pub own-place : (r : ℕ) → r < rows → place-of (identifier r) (table .identifiers) ≡ r
+  own-place r inside =
+      let found = place-before (identifier r) (table .identifiers) r inside refl in
+      let here = place-here (identifier r) (table .identifiers) (omega arith) in
+      let first = no-later r (place-of (identifier r) (table .identifiers)) inside (sym here) in
+      omega arith
 
   -- cut to what goes on the air, every identifier is what it was
   pub none-cut : map on-air (table .identifiers) ≡ table .identifiers

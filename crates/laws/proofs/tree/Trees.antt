@@ -20,7 +20,7 @@ use Rattle.input.specs.Classes.{Table, place-of, earlier, parent-of, zeros, wit
 use Rattle.input.specs.Classes.{Tree, parent, depth, share, row-of, sends, children-share}
 use Rattle.input.specs.Events.{Events, count}
 use Rattle.rules.specs.Box.{Box, has-head}
-use Rattle.input.specs.Refusals.{given, or-else, first, first-below, Room, rows-refused, class-refused, row-refused}
+use Rattle.input.specs.Refusals.{given, or-else, first, first-below, Room, rows-refused, root-refused, class-refused, row-refused}
 use Rattle.input.specs.Refusals.{shares-refused, table-refused, packet-refused, meeting-refused}
 use Rattle.rules.specs.Refused.{idle, event-refused, refused}
 use Rattle.input.proofs.Filled.{filled-at}
@@ -232,6 +232,15 @@ module _ (table : Table) (fine : table-refused table .number ≡ 0) where
 
   pub row-passes : (r : ℕ) → r < n → row-refused table r .number ≡ 0
   row-passes = below-none (row-refused table) n (both .0)
+
+  -- the root has no share
+  pub root-bare : 0 < n → getD (table .shares) 0 0 ≡ 0
+  unfolding row-refused root-refused
+  root-bare some =
+      let all = first-none _ (row-passes 0 some) in
+      let a = eqb (getD (table .parent-identifiers) 0 0) 0 in
+      let b = eqb (getD (table .shares) 0 0) 0 in
+      eqb-true (getD (table .shares) 0 0) 0 (not-false b (or-is-false (not a) (not b) .0 (given-none _ _ _ (all .1 .1 .0)) .1))
 
   sum-passes : (p : ℕ) → p < n → shares-refused table p .number ≡ 0
   sum-passes = below-none (shares-refused table) n (both .1)

@@ -1,0 +1,9 @@
+-- The theorems on the live box, bottom up: each file rests on files that stand above it here.
+pub mod Queues
+pub mod Classless
+pub mod Unused
+pub mod After
+pub mod Arriving
+pub mod Finishing
+pub mod Taking
+pub mod Outset
