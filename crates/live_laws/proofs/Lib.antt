@@ -1,0 +1,4 @@
+-- The theorems on the live box, bottom up: each file rests on files that stand above it here.
+pub mod Tests
+pub mod TellingTree
+pub mod TellingPackets
