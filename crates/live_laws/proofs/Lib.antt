@@ -2,3 +2,4 @@
 pub mod Tests
 pub mod TellingTree
 pub mod TellingPackets
+pub mod TellingHeads
