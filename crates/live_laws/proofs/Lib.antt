@@ -3,3 +3,4 @@ pub mod Tests
 pub mod TellingTree
 pub mod TellingPackets
 pub mod TellingHeads
+pub mod TellingTags
