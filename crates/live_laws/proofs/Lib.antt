@@ -4,3 +4,4 @@ pub mod TellingTree
 pub mod TellingPackets
 pub mod TellingHeads
 pub mod TellingTags
+pub mod Telling
