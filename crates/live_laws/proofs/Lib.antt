@@ -5,3 +5,4 @@ pub mod TellingPackets
 pub mod TellingHeads
 pub mod TellingTags
 pub mod Telling
+pub mod Narrowing

@@ -150,7 +150,7 @@ module _ (tree : Tree) (sound : Sound tree) (a : Rows) (settled : Settled tree a
         within-most j kid = rw (same-most left a p) at (tag-size tree left a p j kid (each j (kid .inside)))
 
     -- the child that p has taken, if it has one
-    taken-at : (p : ℕ) → Inner tree p → (t : ℕ) × Taken tree a p t
+    pub taken-at : (p : ℕ) → Inner tree p → (t : ℕ) × Taken tree a p t
     taken-at p inner = go (ℕ-discrete (head a p) 0)
       where
         go : Dec (head a p ≡ 0) → (t : ℕ) × Taken tree a p t

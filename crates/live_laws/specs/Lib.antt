@@ -1,2 +1,3 @@
 -- What the theorems on the live box speak of beside its rules.
 pub mod Holds
+pub mod Narrow
