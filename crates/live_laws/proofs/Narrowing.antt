@@ -1,22 +1,22 @@
 -- The words of a sound live state are narrow, and its tags and counts fit in 64 bits with room to spare.
 -- Assumes nothing.
 use Prim.Native.Nat.{ℕ, zero, suc, _+_, _*_, _-_, _^_, _≤_, _<_}
-use mathlib.Core.Path.{_≡_, refl, sym, ap, subst, _∙_}
+use mathlib.Core.Path.{_≡_, sym, ap, _∙_}
 use mathlib.Core.Logic.{_≢_, ⊎-elim}
-use mathlib.Core.Bool.{Bool, true, false, cond}
-use mathlib.Core.List.{List, []}
+use mathlib.Core.Bool.{Bool, cond}
+use mathlib.Core.List.{List}
 use native.Mathlib.Decide.{ℕ-discrete, decLe}
 use native.Mathlib.Omega.{arith}
 use lib.ListN.{length, getD, List·getD-eq-default}
-use Rattle.input.specs.Limits.{most-rows, most-depth, most-identifier, most-bytes, whole, scale}
+use Rattle.input.specs.Limits.{most-depth, most-identifier, most-bytes, whole, scale}
 use Rattle.input.specs.Shares.{charge}
-use Rattle.input.specs.Classes.{Tree, parent, depth, share, child}
+use Rattle.input.specs.Classes.{Tree, parent, share, child}
 use Rattle.input.proofs.Charges.{charge-most}
-use Rattle.rules.specs.Box.{Rows, start, finish, virtual, head, head-length, head-class, has-head, held-by, queue-of}
+use Rattle.rules.specs.Box.{Rows, start, finish, virtual, head, head-length, head-class, has-head, queue-of}
 use Rattle.laws.specs.Sound.{Sound, Kid, Inner, Sender}
-use Rattle.laws.specs.Moves.{SameHead, Settled}
-use Rattle.laws.specs.Kept.{Kept, Taken, held-below}
-use Rattle.laws.specs.Sizes.{level-most, SizedLevel}
+use Rattle.laws.specs.Moves.{Settled}
+use Rattle.laws.specs.Kept.{Taken, held-below}
+use Rattle.laws.specs.Sizes.{level-most}
 use Rattle.laws.proofs.level.Heads.{some-has, none-has}
 use Rattle.laws.proofs.tree.Paths.{kid-child, climb, its-parent, parent-is-inner}
 use Rattle.laws.proofs.tree.Depths.{sender-or-inner}

@@ -1,9 +1,9 @@
 -- The test of a live state says what a sound live state has, and no more.
 -- Assumes nothing.
 use Prim.Native.Nat.{ℕ, zero, suc, _≤_, _<_}
-use mathlib.Core.Path.{_≡_, refl, sym, subst, _∙_}
+use mathlib.Core.Path.{_≡_, sym, subst, _∙_}
 use mathlib.Core.Logic.{_≢_, ⊎-elim}
-use mathlib.Core.Bool.{Bool, true, cond, _&&_}
+use mathlib.Core.Bool.{true}
 use mathlib.Core.List.{List}
 use native.Mathlib.Decide.{ℕ-discrete}
 use native.Mathlib.Omega.{arith}
@@ -11,17 +11,16 @@ use lib.Dec.{leb}
 use lib.ListN.{length, getD}
 use borrow.Author.Tests.{leb-true, le-leb}
 use Rattle.input.specs.Limits.{most-rows, most-bytes}
-use Rattle.input.specs.Classes.{Tree, parent}
-use Rattle.rules.specs.Box.{Packet, Rows, head, head-length, head-class, held-by, queue-of}
+use Rattle.rules.specs.Box.{Packet, Rows, head, head-length, queue-of}
 use Rattle.laws.specs.Sound.{Sound, Kid, Inner, Sender}
 use Rattle.laws.specs.Moves.{Full, SameHead, Settled}
 use Rattle.laws.specs.Kept.{Kept, InLine, HeadOf, held-below}
 use Rattle.laws.proofs.tree.Depths.{sender-or-inner}
 use Rattle.laws.proofs.event.Keeping.{holds-head, holds-none}
 use Rattle.live_rules.specs.Limits.{most-held, most-accepted}
-use Rattle.live_rules.specs.State.{Live, queue, queues, box-of, gone, events}
+use Rattle.live_rules.specs.State.{Live, queue, box-of, gone, events}
 use Rattle.live_rules.specs.Soundness.{all, few, tree-sound, packets-sound, in-order, holding-sound, tags-sound, sizes-sound, counts-sound, row-sound, sound}
-use Rattle.live_laws.specs.Holds.{RowsRowed, Shaped, Treed, Fitting, Counted, Holds}
+use Rattle.live_laws.specs.Holds.{RowsRowed, Shaped, Fitting, Counted, Holds}
 use Rattle.live_laws.proofs.Tests.{both-true, true-both, all-true, true-all}
 use Rattle.live_laws.proofs.TellingTree.{tree-holds, holds-tree}
 use Rattle.live_laws.proofs.TellingPackets.{packets-fit, fit-packets, fit-order, queues-length, queue-at, queue-in-line}
@@ -175,6 +174,10 @@ module _
         root-start = root .0;
         root-finish = root .1;
       }
+
+-- the counts need nothing of the lists: by them there are no more rows than can be
+pub sound-counted : (live : Live) → sound live ≡ true → Counted live
+sound-counted live pass = few-counted live (sound-parts live pass .0)
 
 pub sound-holds : (live : Live) → Shaped live → sound live ≡ true → Holds live
 sound-holds live shaped pass =

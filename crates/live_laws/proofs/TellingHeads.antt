@@ -1,16 +1,15 @@
 -- What rows hold and which heads they have: the tests of it say what a well-kept box has, and no more.
 -- Assumes nothing.
-use Prim.Native.Nat.{ℕ, zero, suc, _+_, _≤_, _<_}
+use Prim.Native.Nat.{ℕ, zero, suc, _≤_, _<_}
 use mathlib.Core.Path.{_≡_, refl, sym, ap, subst, _∙_}
-use mathlib.Core.Logic.{_≢_, _⊎_, ⊎-elim}
-use mathlib.Core.Bool.{Bool, true, false, cond, _&&_}
+use mathlib.Core.Logic.{_≢_, ⊎-elim}
+use mathlib.Core.Bool.{Bool, true, cond}
 use mathlib.Core.List.{List, [], _∷_}
 use native.Mathlib.Decide.{ℕ-discrete}
 use native.Mathlib.Omega.{arith}
 use lib.Dec.{eqb}
 use lib.ListN.{length, getD}
 use borrow.Author.Tests.{eqb-true, eq-eqb, ne-eqb}
-use Rattle.input.specs.Limits.{most-bytes}
 use Rattle.input.specs.Classes.{Tree, child, sends}
 use Rattle.rules.specs.Box.{Packet, Rows, head, head-length, head-class, has-head, virtual}
 use Rattle.rules.specs.Promise.{within}
@@ -94,9 +93,11 @@ unfolding took-child
 took-kid tree a p t inside pass =
     let first = both-true (child tree p t) _ pass in
     let second = both-true (has-head a t) _ (first .1) in
-    let is = headed-is a p (head a t) (head-length a t) (head-class a t) (second .1) in
-    (child-kid tree p t inside (first .0), has-true a t (second .0),
-    record { packet-same = sym (is .0); length-same = sym (is .1); class-same = sym (is .2) })
+    let is = headed-is a p (head a t) (head-length a t) (head-class a t) (second .1) in (
+      child-kid tree p t inside (first .0),
+      has-true a t (second .0),
+      record { packet-same = sym (is .0); length-same = sym (is .1); class-same = sym (is .2) },
+    )
 
 kid-took : (tree : Tree) (a : Rows) (p t : ℕ) → Kid tree p t → head a t ≢ 0 → SameHead a p a t → took-child tree a p t ≡ true
 unfolding took-child
@@ -200,8 +201,8 @@ module _ (live : Live) (sound : Sound (live .tree)) (each : (r : ℕ) → r < li
       let (t, kid, some, same) = inner-took p inner (λ empty. has (inner-empty p inner empty .0)) in
       (t, kid, same)
 
-  -- what a head has: its class sends and is in the row's part of the tree; 1 to so many bytes; and it has arrived
-  pub record Heads (now most r : ℕ) : Type 0 where
+  -- what a head has: its class sends and is in the row's part of the tree, and it has 1 to so many bytes
+  pub record Heads (most r : ℕ) : Type 0 where
     pub of-sender : Sender (live .tree) (head-class (live .rows) r)
     pub of-part : within (live .tree) r (head-class (live .rows) r) ≡ true
     pub some-length : 0 < head-length (live .rows) r
@@ -209,12 +210,12 @@ module _ (live : Live) (sound : Sound (live .tree)) (each : (r : ℕ) → r < li
 
   pub heads-fit :
       (now most : ℕ) → ((k : ℕ) → InLine now most 0 (queue (live .packets) k))
-      → (r : ℕ) → r < live .tree .rows → head (live .rows) r ≢ 0 → Heads now most r
+      → (r : ℕ) → r < live .tree .rows → head (live .rows) r ≢ 0 → Heads most r
   heads-fit now most lines =
-      from-children (live .tree) sound (λ r. head (live .rows) r ≢ 0 → Heads now most r)
+      from-children (live .tree) sound (λ r. head (live .rows) r ≢ 0 → Heads most r)
       (λ r inside below has. ⊎-elim (own r has) (from r below has) (sender-or-inner (live .tree) sound r inside))
     where
-      own : (k : ℕ) → head (live .rows) k ≢ 0 → Sender (live .tree) k → Heads now most k
+      own : (k : ℕ) → head (live .rows) k ≢ 0 → Sender (live .tree) k → Heads most k
       own k has sender =
           let (some, few, class, earlier) = first-fits (live .rows) k now most 0 (queue (live .packets) k) has (sender-heads k sender) (lines k) in
           record {
@@ -225,8 +226,8 @@ module _ (live : Live) (sound : Sound (live .tree)) (each : (r : ℕ) → r < li
           }
 
       from :
-          (p : ℕ) → ((j : ℕ) → Kid (live .tree) p j → head (live .rows) j ≢ 0 → Heads now most j) → head (live .rows) p ≢ 0
-          → Inner (live .tree) p → Heads now most p
+          (p : ℕ) → ((j : ℕ) → Kid (live .tree) p j → head (live .rows) j ≢ 0 → Heads most j) → head (live .rows) p ≢ 0
+          → Inner (live .tree) p → Heads most p
       from p below has inner =
           let (t, kid, same) = child-heads p inner has in
           let its = below t kid (λ none. has (sym (same .packet-same) ∙ none)) in

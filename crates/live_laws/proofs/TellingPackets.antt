@@ -1,8 +1,8 @@
 -- The packets held: the test of them says what they have, and no more; the queues that they make.
 -- Assumes nothing.
-use Prim.Native.Nat.{ℕ, zero, suc, _+_, _≤_, _<_}
+use Prim.Native.Nat.{ℕ, zero, suc, _≤_, _<_}
 use mathlib.Core.Path.{_≡_, refl, sym, ap, _∙_}
-use mathlib.Core.Bool.{Bool, true, false, cond, _&&_}
+use mathlib.Core.Bool.{Bool, true, false, cond}
 use mathlib.Core.List.{List, [], _∷_, _++_}
 use native.Mathlib.Decide.{ℕ-discrete}
 use native.Mathlib.Omega.{arith}
@@ -12,7 +12,6 @@ use lib.Seq.{getD-at}
 use borrow.Author.Tests.{ltb-true, leb-true, lt-ltb, le-leb}
 use Rattle.input.specs.Limits.{least-bytes, most-bytes}
 use Rattle.input.specs.Classes.{Tree, sends}
-use Rattle.rules.specs.Box.{Packet}
 use Rattle.laws.specs.Sound.{Sender}
 use Rattle.laws.specs.Kept.{InLine}
 use Rattle.laws.proofs.tree.Paths.{sends-sender}
@@ -29,10 +28,11 @@ unfolding packet-sound
 packet-fits tree packet pass =
     let first = both-true (ltb (packet .class) (tree .rows)) _ pass in
     let second = both-true (sends tree (packet .class)) _ (first .1) in
-    let third = both-true (leb least-bytes (packet .length)) _ (second .1) in
-    (sends-sender tree (packet .class) (ltb-true (packet .class) (tree .rows) (first .0)) (second .0),
-    leb-true least-bytes (packet .length) (third .0),
-    leb-true (packet .length) most-bytes (third .1))
+    let third = both-true (leb least-bytes (packet .length)) _ (second .1) in (
+      sends-sender tree (packet .class) (ltb-true (packet .class) (tree .rows) (first .0)) (second .0),
+      leb-true least-bytes (packet .length) (third .0),
+      leb-true (packet .length) most-bytes (third .1),
+    )
 
 fits-packet : (tree : Tree) (packet : Held) → Sender tree (packet .class) → 0 < packet .length → packet .length ≤ most-bytes → packet-sound tree packet ≡ true
 unfolding packet-sound
@@ -50,9 +50,14 @@ packets-fit tree limit least (packet ∷ later) sound order =
     let each = both-true (packet-sound tree packet) (packets-sound tree later) sound in
     let fits = packet-fits tree packet (each .0) in
     let from = both-true (leb least (packet .name)) _ order in
-    let below = both-true (ltb (packet .name) limit) (in-order limit (suc (packet .name)) later) (from .1) in
-    (fits .0, fits .1, fits .2, leb-true least (packet .name) (from .0), ltb-true (packet .name) limit (below .0),
-    packets-fit tree limit (suc (packet .name)) later (each .1) (below .1))
+    let below = both-true (ltb (packet .name) limit) (in-order limit (suc (packet .name)) later) (from .1) in (
+      fits .0,
+      fits .1,
+      fits .2,
+      leb-true least (packet .name) (from .0),
+      ltb-true (packet .name) limit (below .0),
+      packets-fit tree limit (suc (packet .name)) later (each .1) (below .1),
+    )
 
 pub fit-packets : (tree : Tree) (limit least : ℕ) (packets : List Held) → Fitting tree limit least packets → packets-sound tree packets ≡ true
 unfolding packets-sound Fitting

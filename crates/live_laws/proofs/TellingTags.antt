@@ -3,7 +3,7 @@
 use Prim.Native.Nat.{ℕ, zero, suc, _+_, _*_, _≤_, _<_}
 use mathlib.Core.Path.{_≡_, refl, sym, ap, _∙_}
 use mathlib.Core.Logic.{_≢_, ⊎-elim}
-use mathlib.Core.Bool.{Bool, true, false, cond, not, _&&_, _||_, and-false, or-true}
+use mathlib.Core.Bool.{true, false, cond, not, _&&_, and-false, or-true}
 use native.Mathlib.Decide.{ℕ-discrete}
 use native.Mathlib.Omega.{arith}
 use lib.Dec.{leb, eqb}
@@ -14,9 +14,9 @@ use Rattle.input.specs.Shares.{charge}
 use Rattle.input.specs.Classes.{Tree, parent, share}
 use Rattle.rules.specs.Box.{Rows, start, finish, virtual, head, head-length, head-class, has-head}
 use Rattle.laws.specs.Sound.{Sound, Kid, Inner, Sender}
-use Rattle.laws.specs.Moves.{SameHead, Settled}
+use Rattle.laws.specs.Moves.{Settled}
 use Rattle.laws.specs.Kept.{Taken, none, one}
-use Rattle.laws.specs.Sizes.{level-most, SizedLevel, Sized, Forward, Marked}
+use Rattle.laws.specs.Sizes.{level-most, Sized, Marked}
 use Rattle.laws.proofs.level.Heads.{some-has, none-has}
 use Rattle.laws.proofs.tree.Paths.{its-parent, parent-is-inner, one-child}
 use Rattle.laws.proofs.tree.Depths.{sender-or-inner}
@@ -211,10 +211,11 @@ module _ (live : Live) where
       let first = both-true (leb (getD (live .bytes) r 0) (most-bytes * gone live)) _ pass in
       let second =
       both-true (leb (getD (live .since) r 0) (getD (live .bytes) r 0))
-      (leb (getD (live .parent-since) r 0) (getD (live .bytes) (parent (live .tree) r) 0)) (first .1) in
-      (leb-true (getD (live .bytes) r 0) (most-bytes * gone live) (first .0),
-      leb-true (getD (live .since) r 0) (getD (live .bytes) r 0) (second .0),
-      leb-true (getD (live .parent-since) r 0) (getD (live .bytes) (parent (live .tree) r) 0) (second .1))
+      (leb (getD (live .parent-since) r 0) (getD (live .bytes) (parent (live .tree) r) 0)) (first .1) in (
+        leb-true (getD (live .bytes) r 0) (most-bytes * gone live) (first .0),
+        leb-true (getD (live .since) r 0) (getD (live .bytes) r 0) (second .0),
+        leb-true (getD (live .parent-since) r 0) (getD (live .bytes) (parent (live .tree) r) 0) (second .1),
+      )
 
   pub counts-hold : ((r : ℕ) → r < live .tree .rows → counts-sound live r ≡ true) → Marked (live .tree) most-bytes (gone live) (box-of live)
   unfolding box-of

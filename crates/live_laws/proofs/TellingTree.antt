@@ -1,17 +1,15 @@
 -- The test of a tree says what a sound tree has, and no more.
 -- Assumes nothing.
 use Prim.Native.Nat.{ℕ, zero, suc, _≤_, _<_}
-use mathlib.Core.Path.{_≡_, refl, sym, _∙_, subst}
-use mathlib.Core.Logic.{⊎-elim}
-use mathlib.Core.Bool.{Bool, true, false, _&&_, _||_, or-true}
+use mathlib.Core.Path.{_≡_, refl, sym, subst}
+use mathlib.Core.Bool.{Bool, true, false, _||_, or-true}
 use native.Mathlib.Omega.{arith}
 use lib.Dec.{T, leb, ltb, eqb}
 use lib.ListN.{length, getD}
 use borrow.Author.Tests.{ltb-true, leb-true, eqb-true, lt-ltb, le-leb, eq-eqb, ne-eqb}
 use Rattle.input.specs.Limits.{most-rows, most-depth, most-identifier, whole}
 use Rattle.input.specs.Shares.{allowed}
-use Rattle.input.specs.Classes.{Tree, parent, depth, share, row-of, child, children-share}
-use Rattle.laws.specs.Sound.{Sound}
+use Rattle.input.specs.Classes.{Tree, parent, depth, share, row-of, children-share}
 use Rattle.live_rules.specs.Soundness.{all, children-sum, named, root-sound, class-sound, tree-sound}
 use Rattle.live_laws.specs.Holds.{Treed}
 use Rattle.live_laws.proofs.Tests.{both-true, true-both, all-true, true-all}
@@ -32,7 +30,7 @@ shares-sum tree p (suc n) = rw (shares-sum tree p n)
 -- ── one row ──
 
 -- any row but the root
-pub record ClassFits (tree : Tree) (r : ℕ) : Type 0 where
+record ClassFits (tree : Tree) (r : ℕ) : Type 0 where
   parent-row : parent tree r < tree .rows
   deeper : depth tree r ≡ suc (depth tree (parent tree r))
   shallow : depth tree r ≤ most-depth
@@ -125,7 +123,7 @@ tree-holds tree some few full pass =
             deeper = λ r positive inside. class r positive inside .deeper;
             shallow = shallow;
             share-allowed = λ r positive inside. class r positive inside .share-allowed;
-            shares-fit = λ p inside. rw (shares-sum tree p (tree .rows)) at (leb-true (children-sum tree (tree .shares) p (tree .rows)) whole (all-true (tree .rows) (shares-test tree) (parts .3) p inside));
+            shares-fit = shares;
           };
       root-parent = root .0;
       root-share = root .2;
@@ -149,6 +147,11 @@ tree-holds tree some few full pass =
 
     class : (r : ℕ) → 0 < r → r < tree .rows → ClassFits tree r
     class r positive inside = class-fits tree r (rw (ne-eqb r 0 (omega arith)) at (all-true (tree .rows) (class-test tree) (parts .2) r inside))
+
+    shares : (p : ℕ) → p < tree .rows → children-share tree p (tree .rows) ≤ whole
+    shares p inside =
+        rw (shares-sum tree p (tree .rows))
+        at (leb-true (children-sum tree (tree .shares) p (tree .rows)) whole (all-true (tree .rows) (shares-test tree) (parts .3) p inside))
 
     shallow : (r : ℕ) → r < tree .rows → depth tree r ≤ most-depth
     shallow zero inside = omega (arith, root .1)
