@@ -23,7 +23,8 @@ use Rattle.live_rules.specs.Soundness.{all, few, tree-sound, packets-sound, in-
 use Rattle.live_laws.specs.Holds.{RowsRowed, Shaped, Fitting, Counted, Holds}
 use Rattle.live_laws.proofs.Tests.{both-true, true-both, all-true, true-all}
 use Rattle.live_laws.proofs.TellingTree.{tree-holds, holds-tree}
-use Rattle.live_laws.proofs.TellingPackets.{packets-fit, fit-packets, fit-order, queues-length, queue-at, queue-in-line}
+use Rattle.live_laws.proofs.Queues.{queues-length, queues-at}
+use Rattle.live_laws.proofs.TellingPackets.{packets-fit, fit-packets, fit-order, queue-in-line}
 use Rattle.live_laws.proofs.TellingHeads.{Headed, head-first, sender-holds, sender-heads, sender-rests, inner-holds, idle-headed, below-idle, child-heads, heads-fit, sender-tells, inner-tells}
 use Rattle.live_laws.proofs.TellingTags.{root-tags, tells-root, headed-tags, tells-tags, forward-tags, sizes-hold, hold-sizes, counts-hold, hold-counts}
 
@@ -114,7 +115,7 @@ rows-full n a rowed =
 pub class-queue : (live : Live) → Sound (live .tree) → (k : ℕ) → Sender (live .tree) k → queue-of (box-of live) k ≡ queue (live .packets) k
 unfolding box-of
 class-queue live tree-ok k sender =
-    queue-at (live .packets) most-rows k (let few-rows = tree-ok .few-rows in let inside = sender .inside in omega arith)
+    queues-at (live .packets) most-rows k (let few-rows = tree-ok .few-rows in let inside = sender .inside in omega arith)
 
 -- ── from the test ──
 

@@ -76,24 +76,6 @@ fit-order tree limit least (packet ∷ later) fits =
 
 -- ── the queues ──
 
-pub queues-length : (packets : List Held) (n : ℕ) → length (queues packets n) ≡ n
-unfolding queues
-queues-length packets zero = refl
-queues-length packets (suc n) =
-    let all = length-append (queues packets n) (queue packets n ∷ []) in
-    let before = queues-length packets n in
-    omega arith
-
-pub queue-at : (packets : List Held) (n k : ℕ) → k < n → getD (queues packets n) k [] ≡ queue packets k
-unfolding queues
-queue-at packets zero k below = absurd (omega arith)
-queue-at packets (suc n) k below = go (ℕ-discrete k n) (queue-at packets n k)
-  where
-    go : Dec (k ≡ n) → (k < n → getD (queues packets n) k [] ≡ queue packets k) → getD (queues packets n ++ queue packets n ∷ []) k [] ≡ queue packets k
-    go (yes e) earlier = getD-at (queues packets n) (queue packets n) [] [] k (queues-length packets n ∙ sym e) ∙ ap (queue packets) (sym e)
-    go (no other) earlier =
-        List·getD-append (queues packets n) (queue packets n ∷ []) [] k (omega (arith, queues-length packets n)) ∙ earlier (omega arith)
-
 -- a class's packets are in line, as all packets are
 pub queue-in-line :
     (tree : Tree) (limit least : ℕ) (packets : List Held) → Fitting tree limit least packets → (k : ℕ)
