@@ -1,0 +1,81 @@
+-- The packets held, as three stretches of words.
+-- Assumes nothing.
+use Prim.Native.Nat.{ℕ, zero, suc, _+_, _≤_, _<_}
+use mathlib.Core.Path.{_≡_, refl, ap, _∙_}
+use mathlib.Core.List.{List, [], _∷_, _++_, map}
+use native.Mathlib.Decide.{ℕ-discrete}
+use native.Mathlib.Omega.{arith}
+use lib.ListN.{length, getD, length-append, List·getD-append}
+use lib.Seq.{getD-at}
+use Rattle.live_rules.specs.Layout.{classes-at, lengths-at, names-at, state-words, words-at}
+use Rattle.live_rules.specs.Limits.{most-held}
+use Rattle.live_rules.specs.State.{Held, packets-at}
+use Rattle.live_rules.proofs.Stretches.{words-none, words-more}
+
+-- the packet at a place
+unfoldable pub packet-in : ℕ → List ℕ → Held
+packet-in i words =
+    record { class = getD words (classes-at + i) 0; length = getD words (lengths-at + i) 0; name = getD words (names-at + i) 0 }
+
+packets-none : (words : List ℕ) → packets-at 0 words ≡ []
+unfolding packets-at
+packets-none words = refl
+
+pub packets-more : (m : ℕ) (words : List ℕ) → packets-at (suc m) words ≡ packets-at m words ++ packet-in m words ∷ []
+unfolding packets-at packet-in
+packets-more m words = refl
+
+pub packets-length : (m : ℕ) (words : List ℕ) → length (packets-at m words) ≡ m
+unfolding packets-at packet-in
+packets-length zero words = refl
+packets-length (suc m) words =
+    let before = packets-length m words in
+    length-append (packets-at m words) (packet-in m words ∷ []) ∙ omega arith
+
+pub packets-get : (m : ℕ) (words : List ℕ) (i : ℕ) (d : Held) → i < m → getD (packets-at m words) i d ≡ packet-in i words
+packets-get zero words i d early = absurd (omega arith)
+packets-get (suc m) words i d early = rw (packets-more m words) (go (ℕ-discrete i m) (packets-get m words i d))
+  where
+    go :
+        Dec (i ≡ m) → (i < m → getD (packets-at m words) i d ≡ packet-in i words)
+        → getD (packets-at m words ++ packet-in m words ∷ []) i d ≡ packet-in i words
+    go (yes same) before = rw same (getD-at (packets-at m words) (packet-in m words) [] d m (packets-length m words))
+    go (no other) before =
+        let long = packets-length m words in
+        List·getD-append (packets-at m words) (packet-in m words ∷ []) d i (omega arith) ∙ before (omega arith)
+
+-- ── each of the three lists ──
+
+map-append : (f : Held → ℕ) (ps : List Held) (p : Held) → map f (ps ++ p ∷ []) ≡ map f ps ++ f p ∷ []
+map-append f [] p = refl
+map-append f (q ∷ ps) p = ap (λ (l : List ℕ). f q ∷ l) (map-append f ps p)
+
+listed :
+    (f : Held → ℕ) (at : ℕ) (words : List ℕ) (limit : ℕ) → at + limit ≤ length words
+    → ((i : ℕ) → f (packet-in i words) ≡ getD words (at + i) 0) → (m : ℕ) → m ≤ limit → map f (packets-at m words) ≡ words-at at m words
+listed f at words limit inside same zero few = rw (words-none, packets-none)
+listed f at words limit inside same (suc m) few =
+    rw (packets-more m words, map-append f (packets-at m words) (packet-in m words), words-more at m words (omega arith), listed f at words limit inside same m (omega arith), same m)
+
+module _ (i : ℕ) (words : List ℕ) where
+  pub class-in : packet-in i words .class ≡ getD words (classes-at + i) 0
+  unfolding packet-in
+  class-in = refl
+
+  pub length-in : packet-in i words .length ≡ getD words (lengths-at + i) 0
+  unfolding packet-in
+  length-in = refl
+
+  pub name-in : packet-in i words .name ≡ getD words (names-at + i) 0
+  unfolding packet-in
+  name-in = refl
+
+module _ (m : ℕ) (words : List ℕ) (few : m ≤ most-held) (inside : state-words ≤ length words) where
+  pub classes-listed : map (λ (p : Held). p .class) (packets-at m words) ≡ words-at classes-at m words
+  classes-listed = listed (λ (p : Held). p .class) classes-at words most-held (omega arith) (λ i. class-in i words) m few
+
+  pub lengths-listed : map (λ (p : Held). p .length) (packets-at m words) ≡ words-at lengths-at m words
+  lengths-listed = listed (λ (p : Held). p .length) lengths-at words most-held (omega arith) (λ i. length-in i words) m few
+
+  pub names-listed : map (λ (p : Held). p .name) (packets-at m words) ≡ words-at names-at m words
+  names-listed = listed (λ (p : Held). p .name) names-at words most-held (omega arith) (λ i. name-in i words) m few
