@@ -1,16 +1,16 @@
 -- The packets held, as three stretches of words.
 -- Assumes nothing.
 use Prim.Native.Nat.{ℕ, zero, suc, _+_, _≤_, _<_}
-use mathlib.Core.Path.{_≡_, refl, ap, _∙_}
+use mathlib.Core.Path.{_≡_, refl, sym, ap, _∙_}
 use mathlib.Core.List.{List, [], _∷_, _++_, map}
 use native.Mathlib.Decide.{ℕ-discrete}
 use native.Mathlib.Omega.{arith}
-use lib.ListN.{length, getD, length-append, List·getD-append}
-use lib.Seq.{getD-at}
+use lib.ListN.{length, getD, length-append, List·getD-append, List·getD-map}
+use lib.Seq.{getD-at, ext-getD}
 use Rattle.live_rules.specs.Layout.{classes-at, lengths-at, names-at, state-words, words-at}
 use Rattle.live_rules.specs.Limits.{most-held}
 use Rattle.live_rules.specs.State.{Held, packets-at}
-use Rattle.live_rules.proofs.Stretches.{words-none, words-more}
+use Rattle.live_rules.proofs.Stretches.{words-none, words-get, words-more}
 
 -- the packet at a place
 unfoldable pub packet-in : ℕ → List ℕ → Held
@@ -79,3 +79,29 @@ module _ (m : ℕ) (words : List ℕ) (few : m ≤ most-held) (inside : state-wo
 
   pub names-listed : map (λ (p : Held). p .name) (packets-at m words) ≡ words-at names-at m words
   names-listed = listed (λ (p : Held). p .name) names-at words most-held (omega arith) (λ i. name-in i words) m few
+
+-- ── the three lists together ──
+
+nobody : Held
+nobody = record { class = 0; length = 0; name = 0 }
+
+part-read :
+    (f : Held → ℕ) (at m : ℕ) (words : List ℕ) (ps : List Held) → f nobody ≡ 0 → words-at at m words ≡ map f ps
+    → (i : ℕ) → i < m → getD words (at + i) 0 ≡ f (getD ps i nobody)
+part-read f at m words ps none same i within =
+    sym (words-get at m words i within) ∙ ap (λ (l : List ℕ). getD l i 0) same ∙ ap (λ (d : ℕ). getD (map f ps) i d) (sym none)
+    ∙ List·getD-map f ps i nobody
+
+-- packets whose three lists stand in the words are read
+pub packets-of :
+    (m : ℕ) (words : List ℕ) (ps : List Held) → length ps ≡ m
+    → words-at classes-at m words ≡ map (λ (p : Held). p .class) ps → words-at lengths-at m words ≡ map (λ (p : Held). p .length) ps
+    → words-at names-at m words ≡ map (λ (p : Held). p .name) ps → packets-at m words ≡ ps
+unfolding packet-in nobody
+packets-of m words ps long classes lengths names =
+    let full = packets-length m words in
+    ext-getD nobody (packets-at m words) ps (omega arith) (λ i within. packets-get m words i nobody (omega arith) ∙ go i (omega arith))
+  where
+    go : (i : ℕ) → i < m → packet-in i words ≡ getD ps i nobody
+    go i within =
+        rw (part-read (λ (p : Held). p .class) classes-at m words ps refl classes i within, part-read (λ (p : Held). p .length) lengths-at m words ps refl lengths i within, part-read (λ (p : Held). p .name) names-at m words ps refl names i within)
