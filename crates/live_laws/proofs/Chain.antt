@@ -47,7 +47,8 @@ chain-early (one ∷ later) words least end rising at n early =
     ∙ words-early at n words (one .at) (one .list) (omega arith)
 
 pub chain-read :
-    (chained : List Stretch) (words : List ℕ) (least end : ℕ) → Rising least end chained → end ≤ length words → (none : Stretch) (k : ℕ) → k < length chained
+    (chained : List Stretch) (words : List ℕ) (least end : ℕ) → Rising least end chained → end ≤ length words
+    → (none : Stretch) (k : ℕ) → k < length chained
     → words-at (getD chained k none .at) (length (getD chained k none .list)) (chain chained words) ≡ getD chained k none .list
 unfolding chain Rising
 chain-read [] words least end rising inside none k within = absurd (omega arith)

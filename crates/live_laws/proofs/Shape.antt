@@ -6,12 +6,14 @@ use mathlib.Core.List.{List}
 use native.Mathlib.Omega.{arith}
 use lib.ListN.{length, getD}
 use Rattle.input.specs.Limits.{most-rows}
-use Rattle.live_rules.specs.Layout.{rows-word, identifiers-at, parents-at, depths-at, shares-at, starts-at, finishes-at, virtuals-at, heads-at, head-lengths-at, head-classes-at, bytes-at, held-at, since-at, parent-since-at, state-words, rows-at}
-use Rattle.live_rules.specs.State.{Live, packets-at, tree-in, rows-in, live-with, live-in}
+use Rattle.live_rules.specs.Layout.{rows-word, identifiers-at, parents-at, depths-at, shares-at, state-words, rows-at}
+use Rattle.live_rules.specs.Layout.{starts-at, finishes-at, virtuals-at, heads-at, head-lengths-at, head-classes-at}
+use Rattle.live_rules.specs.Layout.{bytes-at, held-at, since-at, parent-since-at}
+use Rattle.live_rules.specs.State.{tree-in, rows-in, live-with, live-in}
 use Rattle.live_rules.proofs.Stretches.{words-length}
 use Rattle.live_rules.proofs.Rows.{rows-length, rows-get, rows-zero}
 use Rattle.live_rules.proofs.Packets.{packets-length}
-use Rattle.live_laws.specs.Holds.{Rowed, RowsRowed, Shaped}
+use Rattle.live_laws.specs.Holds.{Rowed, Shaped}
 
 pub rowed-in : (at n : ℕ) (words : List ℕ) → n ≤ most-rows → at + n ≤ length words → Rowed n (rows-at at n words)
 rowed-in at n words few inside = record { full = rows-length at n words few inside; unused = rows-zero at n words inside }
@@ -41,6 +43,7 @@ module _ (n : ℕ) (words : List ℕ) (some : 0 < n) (few : n ≤ most-rows) (in
         held-all = rows-get held-at n words (omega arith) 0 some ∙ sym held ∙ sym (packets-length m words);
       }
 
-pub shaped-in : (words : List ℕ) → state-words ≤ length words → 0 < getD words rows-word 0 → getD words rows-word 0 ≤ most-rows → Shaped (live-in words)
+pub shaped-in :
+    (words : List ℕ) → state-words ≤ length words → 0 < getD words rows-word 0 → getD words rows-word 0 ≤ most-rows → Shaped (live-in words)
 unfolding live-in
 shaped-in words inside some few = shaped-with (getD words rows-word 0) words some few inside (getD words held-at 0) refl

@@ -1,21 +1,22 @@
 -- A live state that is stored is read again.
 -- Assumes nothing.
-use Prim.Native.Nat.{ℕ, zero, suc, _+_, _≤_, _<_}
+use Prim.Native.Nat.{ℕ, _+_, _≤_, _<_}
 use mathlib.Core.Path.{_≡_, refl, sym, ap, _∙_}
 use mathlib.Core.List.{List, [], _∷_, map}
 use native.Mathlib.Omega.{arith}
 use lib.ListN.{length, getD, take, length-take, length-map}
-use lib.Seq.{sets, length-take-le, take-all}
+use lib.Seq.{length-take-le, take-all}
 use Rattle.input.specs.Limits.{most-rows}
-use Rattle.input.specs.Classes.{Tree}
-use Rattle.rules.specs.Box.{Rows}
 use Rattle.live_rules.specs.Limits.{most-held}
-use Rattle.live_rules.specs.Layout.{rows-word, accepted-word, identifiers-at, parents-at, depths-at, shares-at, starts-at, finishes-at, virtuals-at, heads-at, head-lengths-at, head-classes-at, bytes-at, held-at, since-at, parent-since-at, classes-at, lengths-at, names-at, state-words, words-at, rows-at}
-use Rattle.live_rules.specs.State.{Held, Live, packets-at, tree-in, rows-in, live-with, live-in, rows-stored, tree-stored, tags-stored, heads-stored, counts-stored, packets-stored, stored}
+use Rattle.live_rules.specs.Layout.{rows-word, accepted-word, identifiers-at, parents-at, depths-at, shares-at, state-words, words-at, rows-at}
+use Rattle.live_rules.specs.Layout.{starts-at, finishes-at, virtuals-at, heads-at, head-lengths-at, head-classes-at}
+use Rattle.live_rules.specs.Layout.{bytes-at, held-at, since-at, parent-since-at, classes-at, lengths-at, names-at}
+use Rattle.live_rules.specs.State.{Held, Live, packets-at, tree-in, rows-in, live-with, live-in}
+use Rattle.live_rules.specs.State.{rows-stored, tree-stored, tags-stored, heads-stored, counts-stored, packets-stored, stored}
 use Rattle.live_rules.proofs.Stretches.{words-get}
 use Rattle.live_rules.proofs.Rows.{rows-of, rows-get}
 use Rattle.live_rules.proofs.Packets.{packets-of}
-use Rattle.live_laws.specs.Holds.{Rowed, RowsRowed, Shaped, Counted}
+use Rattle.live_laws.specs.Holds.{Rowed, Shaped, Counted}
 use Rattle.live_laws.proofs.Chain.{Stretch, chain, Rising, chain-length, chain-read}
 
 abbrev stretch : ℕ → List ℕ → Stretch
@@ -151,17 +152,26 @@ module _ (live : Live) (few : live .tree .rows ≤ most-rows) (few-held : length
           let size = shaped .identifiers in
           let whole : take n ids ≡ ids = take-all n ids (omega arith) in
           let identifiers : words-at identifiers-at n (stored live words) ≡ ids = rw (whole, shaped .identifiers) at (read-again 1 (omega arith)) in
-          rw (identifiers, rows-again parents-at (live .tree .parents) (omega arith) (shaped .parents) (read-again 2 (omega arith)))
-          (rw (rows-again depths-at (live .tree .depths) (omega arith) (shaped .depths) (read-again 3 (omega arith)), rows-again shares-at (live .tree .shares) (omega arith) (shaped .shares) (read-again 4 (omega arith))))
+          rw (
+            identifiers,
+            rows-again parents-at (live .tree .parents) (omega arith) (shaped .parents) (read-again 2 (omega arith)),
+            rows-again depths-at (live .tree .depths) (omega arith) (shaped .depths) (read-again 3 (omega arith)),
+            rows-again shares-at (live .tree .shares) (omega arith) (shaped .shares) (read-again 4 (omega arith)),
+          )
 
-      rows-read : rows-in (live .tree .rows) (stored live words) ≡ live .rows
+      rows-in-again : rows-in (live .tree .rows) (stored live words) ≡ live .rows
       unfolding rows-in stretches
-      rows-read =
+      rows-in-again =
           let rows = live .rows in
           let rowed = shaped .rows in
-          rw (rows-again starts-at (rows .starts) (omega arith) (rowed .starts) (read-again 5 (omega arith)), rows-again finishes-at (rows .finishes) (omega arith) (rowed .finishes) (read-again 6 (omega arith)))
-          (rw (rows-again virtuals-at (rows .virtuals) (omega arith) (rowed .virtuals) (read-again 7 (omega arith)), rows-again heads-at (rows .heads) (omega arith) (rowed .heads) (read-again 8 (omega arith)))
-          (rw (rows-again head-lengths-at (rows .head-lengths) (omega arith) (rowed .head-lengths) (read-again 9 (omega arith)), rows-again head-classes-at (rows .head-classes) (omega arith) (rowed .head-classes) (read-again 10 (omega arith)))))
+          rw (
+            rows-again starts-at (rows .starts) (omega arith) (rowed .starts) (read-again 5 (omega arith)),
+            rows-again finishes-at (rows .finishes) (omega arith) (rowed .finishes) (read-again 6 (omega arith)),
+            rows-again virtuals-at (rows .virtuals) (omega arith) (rowed .virtuals) (read-again 7 (omega arith)),
+            rows-again heads-at (rows .heads) (omega arith) (rowed .heads) (read-again 8 (omega arith)),
+            rows-again head-lengths-at (rows .head-lengths) (omega arith) (rowed .head-lengths) (read-again 9 (omega arith)),
+            rows-again head-classes-at (rows .head-classes) (omega arith) (rowed .head-classes) (read-again 10 (omega arith)),
+          )
 
       packets-again : packets-at (length (live .packets)) (stored live words) ≡ live .packets
       unfolding stretches
@@ -183,21 +193,29 @@ module _ (live : Live) (few : live .tree .rows ≤ most-rows) (few-held : length
       accepted-again =
           sym (words-get 0 2 (stored live words) 1 (omega arith)) ∙ ap (λ (l : List ℕ). getD l 1 0) (read-again 0 (omega arith))
 
-      held-read : rows-at held-at (live .tree .rows) (stored live words) ≡ live .held
+      held-list-again : rows-at held-at (live .tree .rows) (stored live words) ≡ live .held
       unfolding stretches
-      held-read = rows-again held-at (live .held) (omega arith) (shaped .held) (read-again 12 (omega arith))
+      held-list-again = rows-again held-at (live .held) (omega arith) (shaped .held) (read-again 12 (omega arith))
 
       with-again : live-with (live .tree .rows) (length (live .packets)) (stored live words) ≡ live
       unfolding live-with stretches
       with-again =
-          rw (tree-again, rows-read, held-read, packets-again, accepted-again)
-          (rw (rows-again bytes-at (live .bytes) (omega arith) (shaped .bytes) (read-again 11 (omega arith)), rows-again since-at (live .since) (omega arith) (shaped .since) (read-again 13 (omega arith)), rows-again parent-since-at (live .parent-since) (omega arith) (shaped .parent-since) (read-again 14 (omega arith))))
+          rw (
+            tree-again,
+            rows-in-again,
+            rows-again bytes-at (live .bytes) (omega arith) (shaped .bytes) (read-again 11 (omega arith)),
+            held-list-again,
+            rows-again since-at (live .since) (omega arith) (shaped .since) (read-again 13 (omega arith)),
+            rows-again parent-since-at (live .parent-since) (omega arith) (shaped .parent-since) (read-again 14 (omega arith)),
+            packets-again,
+            accepted-again,
+          )
 
       -- how many packets are held is the root's word
       held-again : 0 < live .tree .rows → getD (stored live words) held-at 0 ≡ length (live .packets)
       held-again some =
           let long = stored-length live words in
-          sym (rows-get held-at (live .tree .rows) (stored live words) (omega arith) 0 some) ∙ ap (λ (l : List ℕ). getD l 0 0) held-read
+          sym (rows-get held-at (live .tree .rows) (stored live words) (omega arith) 0 some) ∙ ap (λ (l : List ℕ). getD l 0 0) held-list-again
           ∙ shaped .held-all
 
 pub stored-in :
@@ -206,5 +224,8 @@ unfolding live-in
 stored-in live words shaped counted inside =
     let few = counted .few-rows in
     let few-held = counted .few-held in
-    rw (count-again live few few-held words inside shaped, held-again live few few-held words inside shaped (counted .some-rows))
+    rw (
+      count-again live few few-held words inside shaped,
+      held-again live few few-held words inside shaped (counted .some-rows),
+    )
     (with-again live few few-held words inside shaped)

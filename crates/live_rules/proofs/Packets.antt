@@ -6,11 +6,11 @@ use mathlib.Core.List.{List, [], _∷_, _++_, map}
 use native.Mathlib.Decide.{ℕ-discrete}
 use native.Mathlib.Omega.{arith}
 use lib.ListN.{length, getD, length-append, List·getD-append, List·getD-map}
-use lib.Seq.{getD-at, ext-getD}
+use lib.Seq.{sets, getD-at, ext-getD}
 use Rattle.live_rules.specs.Layout.{classes-at, lengths-at, names-at, state-words, words-at}
 use Rattle.live_rules.specs.Limits.{most-held}
 use Rattle.live_rules.specs.State.{Held, packets-at}
-use Rattle.live_rules.proofs.Stretches.{words-none, words-get, words-more}
+use Rattle.live_rules.proofs.Stretches.{words-none, words-get, words-more, get-late}
 
 -- the packet at a place
 unfoldable pub packet-in : ℕ → List ℕ → Held
@@ -55,7 +55,13 @@ listed :
     → ((i : ℕ) → f (packet-in i words) ≡ getD words (at + i) 0) → (m : ℕ) → m ≤ limit → map f (packets-at m words) ≡ words-at at m words
 listed f at words limit inside same zero few = rw (words-none, packets-none)
 listed f at words limit inside same (suc m) few =
-    rw (packets-more m words, map-append f (packets-at m words) (packet-in m words), words-more at m words (omega arith), listed f at words limit inside same m (omega arith), same m)
+    rw (
+      packets-more m words,
+      map-append f (packets-at m words) (packet-in m words),
+      words-more at m words (omega arith),
+      listed f at words limit inside same m (omega arith),
+      same m,
+    )
 
 module _ (i : ℕ) (words : List ℕ) where
   pub class-in : packet-in i words .class ≡ getD words (classes-at + i) 0
@@ -104,4 +110,20 @@ packets-of m words ps long classes lengths names =
   where
     go : (i : ℕ) → i < m → packet-in i words ≡ getD ps i nobody
     go i within =
-        rw (part-read (λ (p : Held). p .class) classes-at m words ps refl classes i within, part-read (λ (p : Held). p .length) lengths-at m words ps refl lengths i within, part-read (λ (p : Held). p .name) names-at m words ps refl names i within)
+        rw (
+          part-read (λ (p : Held). p .class) classes-at m words ps refl classes i within,
+          part-read (λ (p : Held). p .length) lengths-at m words ps refl lengths i within,
+          part-read (λ (p : Held). p .name) names-at m words ps refl names i within,
+        )
+
+-- what is stored before them leaves them
+pub packets-late : (m : ℕ) (words : List ℕ) (to : ℕ) (xs : List ℕ) → to + length xs ≤ classes-at → packets-at m (sets words to xs) ≡ packets-at m words
+unfolding packets-at
+packets-late zero words to xs before = refl
+packets-late (suc m) words to xs before =
+    rw (
+      packets-late m words to xs before,
+      get-late words to xs (classes-at + m) (omega arith),
+      get-late words to xs (lengths-at + m) (omega arith),
+      get-late words to xs (names-at + m) (omega arith),
+    )

@@ -54,7 +54,11 @@ sets-snoc words at xs n x long = sets-append words at xs (x ∷ []) ∙ ap (λ (
 pub sets-same : (at n : ℕ) (words : List ℕ) → at + n ≤ length words → sets words at (words-at at n words) ≡ words
 sets-same at zero words inside = rw words-none
 sets-same at (suc n) words inside =
-    rw (words-more at n words (omega arith), sets-snoc words at (words-at at n words) n (getD words (at + n) 0) (words-length at n words (omega arith)), sets-same at n words (omega arith))
+    rw (
+      words-more at n words (omega arith),
+      sets-snoc words at (words-at at n words) n (getD words (at + n) 0) (words-length at n words (omega arith)),
+      sets-same at n words (omega arith),
+    )
     (set-getD words (at + n) 0)
 
 -- ── what was stored is read ──

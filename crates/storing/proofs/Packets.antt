@@ -7,7 +7,7 @@ use mathlib.Core.List.{List, [], _∷_, _++_, map, append-nil, append-assoc}
 use native.Mathlib.Numerals.{add-one}
 use native.Mathlib.Omega.{arith}
 use lib.Dec.{eqb}
-use borrow.Author.Tests.{eq-eqb, ne-eqb}
+use borrow.Author.Tests.{eq-eqb, ne-eqb, eqb-true}
 use lib.ListN.{length, getD, set, take, drop, length-append, length-set, length-take, length-drop, drop-of-length-le}
 use lib.Seq.{sets, length-sets, take-suc, take-all, length-take-le, drop-cons, drop-append-le, slice-empty}
 use Rattle.live_rules.specs.Layout.{words-at, classes-at, lengths-at, names-at, state-words}
@@ -113,13 +113,22 @@ module _ (m : ℕ) (words : List ℕ) (inside : state-words ≤ length words) wh
       let two : List ℕ = set one (lengths-at + m) (packet .length) in
       let long-one = length-set words (classes-at + m) (packet .class) in
       let long-two = length-set one (lengths-at + m) (packet .length) in
-      let lengths : words-at lengths-at m one ≡ words-at lengths-at m words = words-late lengths-at m words (classes-at + m) (packet .class ∷ []) (omega arith) in
+      let lengths : words-at lengths-at m one ≡ words-at lengths-at m words =
+      words-late lengths-at m words (classes-at + m) (packet .class ∷ []) (omega arith) in
       let names : words-at names-at m two ≡ words-at names-at m words =
       words-late names-at m one (lengths-at + m) (packet .length ∷ []) (omega arith)
       ∙ words-late names-at m words (classes-at + m) (packet .class ∷ []) (omega arith) in
-      rw (map-append (λ (p : Held). p .class) ps (packet ∷ []), classes-listed m words (omega arith) inside, joined-one classes-at m (packet .class) words words (omega arith) refl)
-      (rw (map-append (λ (p : Held). p .length) ps (packet ∷ []), lengths-listed m words (omega arith) inside, joined-one lengths-at m (packet .length) one words (omega arith) lengths)
-      (rw (map-append (λ (p : Held). p .name) ps (packet ∷ []), names-listed m words (omega arith) inside, joined-one names-at m (packet .name) two words (omega arith) names)))
+      rw (
+        map-append (λ (p : Held). p .class) ps (packet ∷ []),
+        classes-listed m words (omega arith) inside,
+        joined-one classes-at m (packet .class) words words (omega arith) refl,
+        map-append (λ (p : Held). p .length) ps (packet ∷ []),
+        lengths-listed m words (omega arith) inside,
+        joined-one lengths-at m (packet .length) one words (omega arith) lengths,
+        map-append (λ (p : Held). p .name) ps (packet ∷ []),
+        names-listed m words (omega arith) inside,
+        joined-one names-at m (packet .name) two words (omega arith) names,
+      )
 
   -- a packet less: a word less in each list
   pub packets-left :
@@ -142,8 +151,19 @@ module _ (m : ℕ) (words : List ℕ) (inside : state-words ≤ length words) wh
       rw first (words-late names-at m words classes-at (left-out i (words-at classes-at m words)) (omega arith)) in
       let names : words-at names-at m two ≡ words-at names-at m words =
       rw second (words-late names-at m one lengths-at (left-out i (words-at lengths-at m one)) (omega arith)) ∙ names-one in
-      rw (map-left (λ (p : Held). p .class) i ps, classes-listed m words few inside, map-left (λ (p : Held). p .length) i ps, lengths-listed m words few inside)
-      (rw (map-left (λ (p : Held). p .name) i ps, names-listed m words few inside, ← names, ← same, ← first, ← second) third)
+      rw (
+        map-left (λ (p : Held). p .class) i ps,
+        classes-listed m words few inside,
+        map-left (λ (p : Held). p .length) i ps,
+        lengths-listed m words few inside,
+        map-left (λ (p : Held). p .name) i ps,
+        names-listed m words few inside,
+        ← names,
+        ← same,
+        ← first,
+        ← second,
+      )
+      third
 
 -- ── the packet with a name ──
 
@@ -159,6 +179,30 @@ without-place name (p ∷ ps) = go (eqb (p .name) name) (without-place name ps)
         ≡ take (cond b 0 (suc (place-of name ps))) (p ∷ ps) ++ drop (suc (cond b 0 (suc (place-of name ps)))) (p ∷ ps)
     go true later = refl
     go false later = ap (λ (l : List Held). p ∷ l) later
+
+-- where a packet has the name, its place is one of theirs
+pub place-inside : (name : ℕ) (ps : List Held) (k : ℕ) (d : Held) → k < length ps → getD ps k d .name ≡ name → place-of name ps < length ps
+unfolding place-of
+place-inside name [] k d inside same = absurd (omega arith)
+place-inside name (p ∷ ps) zero d inside same = rw (eq-eqb (p .name) name same) (omega arith)
+place-inside name (p ∷ ps) (suc k) d inside same = go (eqb (p .name) name) (place-inside name ps k d (omega arith) same)
+  where
+    go : (b : Bool) → place-of name ps < length ps → cond b 0 (suc (place-of name ps)) < suc (length ps)
+    go true later = omega arith
+    go false later = omega arith
+
+-- and the packet there has it
+pub place-named : (name : ℕ) (ps : List Held) (d : Held) → place-of name ps < length ps → getD ps (place-of name ps) d .name ≡ name
+unfolding place-of
+place-named name [] d inside = absurd (omega arith)
+place-named name (p ∷ ps) d inside = go (eqb (p .name) name) refl inside (place-named name ps d)
+  where
+    go :
+        (b : Bool) → eqb (p .name) name ≡ b → cond b 0 (suc (place-of name ps)) < suc (length ps)
+        → (place-of name ps < length ps → getD ps (place-of name ps) d .name ≡ name)
+        → getD (p ∷ ps) (cond b 0 (suc (place-of name ps))) d .name ≡ name
+    go true same within later = eqb-true (p .name) name same
+    go false other within later = later (omega arith)
 
 module _ (m : ℕ) (words : List ℕ) where
   nobody : Held

@@ -46,8 +46,11 @@ loop-less c = search needs
 loop-again : tie.Need-loop-again Inv-loop μ-loop
 loop-again c =
     let at = c .before .before .before in
-    let s = at .before .before .args in
-    (omega arith, written-turn (at .loop .state) (s .state .now) (s .list .now) (s .at) (at .loop .r) _ (omega arith) (c .long .ensures .0) (at .loop .inv .1), simp length-set (omega arith))
+    let s = at .before .before .args in (
+      omega arith,
+      written-turn (at .loop .state) (s .state .now) (s .list .now) (s .at) (at .loop .r) _ (omega arith) (c .long .ensures .0) (at .loop .inv .1),
+      simp length-set (omega arith),
+    )
 
 same-length : tie.Need-same-length Inv-loop μ-loop
 same-length c = search needs

@@ -21,10 +21,23 @@ same-length c = search needs
 
 returns : tie.Need-returns
 returns c =
-    let s = c .before .before .before .before .before .before .before .before .before .before .before .before .before .args in (
-      packets-left (s .m) (s .state .now) (omega arith) (omega arith) (s .i) _ _ _ (c .before .before .before .before .before .before .before .before .before .before .close .ensures .0) (c .before .before .before .before .before .before .close2 .ensures .0)
-          (c .before .before .close3 .ensures .0),
-      c .before .before .close3 .ensures .1 ∙ c .before .before .before .before .before .before .close2 .ensures .1 ∙ c .before .before .before .before .before .before .before .before .before .before .close .ensures .1,
+    let third = c .before .before in
+    let second = third .before .before .before .before in
+    let first = second .before .before .before .before in
+    let s = first .before .before .before .args in (
+      packets-left
+          (s .m)
+          (s .state .now)
+          (omega arith)
+          (omega arith)
+          (s .i)
+          _
+          _
+          _
+          (first .close .ensures .0)
+          (second .close2 .ensures .0)
+          (third .close3 .ensures .0),
+      third .close3 .ensures .1 ∙ second .close2 .ensures .1 ∙ first .close .ensures .1,
     )
 
 pub take-packet-spec : {M : Type 1} → statement M
