@@ -1,4 +1,8 @@
 -- The theorems on the live box, bottom up: each file rests on files that stand above it here.
+pub mod Chain
+pub mod Shape
+pub mod Stored
+pub mod EventStored
 pub mod Queues
 pub mod Tests
 pub mod TellingTree

@@ -1,0 +1,2 @@
+-- What the contracts of storing speak of.
+pub mod Packets
