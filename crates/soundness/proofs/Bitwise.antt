@@ -1,9 +1,9 @@
 -- A bit that is not set is set by adding its power of two, and no other bit moves.
 -- Assumes nothing.
-use Prim.Native.Nat.{ℕ, zero, suc, _+_, _*_, _/_, _%_, _^_, _≤_, _<_}
+use Prim.Native.Nat.{ℕ, zero, suc, _+_, _*_, _/_, _%_, _^_, _<_}
 use mathlib.Core.Path.{_≡_, refl, sym, ap, _∙_}
 use mathlib.Core.Logic.{_≢_}
-use mathlib.Core.Bool.{Bool, true, false, _||_}
+use mathlib.Core.Bool.{false, _||_}
 use mathlib.Core.List.{List}
 use native.Mathlib.Decide.{ℕ-discrete}
 use native.Mathlib.Nat.{pow-suc, one-mul}
@@ -14,8 +14,7 @@ use lib.Dec.{eqb, lit<}
 use lib.ListN.{length, getD, set}
 use lib.Pow.{shr-shr, shl-exact}
 use lib.Seq.{getD-set-same, getD-set-other}
-use Rattle.input.specs.Limits.{most-identifier}
-use Rattle.soundness.specs.Bits.{word-bits, table-words, bit, met}
+use Rattle.soundness.specs.Bits.{word-bits, bit, met}
 use Rattle.soundness.proofs.Alls.{or-true, or-false}
 
 -- ── one word ──

@@ -1,12 +1,12 @@
 -- The four parts of a sound tree: the first that fails decides, and past three of them the last.
 -- Assumes nothing.
-use Prim.Native.Nat.{ℕ, zero, suc, _≤_, _<_}
-use mathlib.Core.Path.{_≡_, sym, _∙_}
+use Prim.Native.Nat.{ℕ, zero, suc, _<_}
+use mathlib.Core.Path.{_≡_}
 use mathlib.Core.Bool.{Bool, true, false, _&&_, _||_}
 use native.Mathlib.Omega.{arith}
 use borrow.Author.Tests.{ltb-true, eqb-true, ne-eqb}
 use lib.Dec.{ltb, leb, eqb}
-use Rattle.input.specs.Limits.{most-rows, most-depth, whole}
+use Rattle.input.specs.Limits.{most-depth, whole}
 use Rattle.input.specs.Shares.{allowed}
 use Rattle.input.specs.Classes.{Tree, parent, depth, share}
 use Rattle.live_rules.specs.Soundness.{all, named, root-sound, class-sound, children-sum, tree-sound}

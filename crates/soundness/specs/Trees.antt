@@ -1,13 +1,13 @@
 -- What the tests of a tree promise, over the arrays that they are lent.
-use Prim.Native.Nat.{ℕ, _≤_, _<_}
+use Prim.Native.Nat.{ℕ, _<_}
 use mathlib.Core.Path.{_≡_}
-use mathlib.Core.Bool.{Bool, true, false}
+use mathlib.Core.Bool.{Bool, false}
 use mathlib.Core.List.{List}
 use lib.ListN.{getD, take}
 use Rattle.input.specs.Limits.{most-rows}
 use Rattle.input.specs.Classes.{Tree, sends}
 use Rattle.input.specs.Lent.{tree-with}
-use Rattle.live_rules.specs.Soundness.{all, named, class-sound, children-sum, tree-sound}
+use Rattle.live_rules.specs.Soundness.{all, named, children-sum, tree-sound}
 
 -- every row below n has a parent that is a row that there can be
 abbrev pub Inside : ℕ → List ℕ → Type 0

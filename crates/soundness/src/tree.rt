@@ -1,7 +1,7 @@
 // The tree of a live state: whether it is as an accepted table is read, which rows are sending classes, and what children have together.
 ghost use mathlib.Core.Path.{_≡_};
 ghost use mathlib.Core.Bool.{not, _&&_, _||_};
-ghost use Prim.Native.Nat.{ℕ, _≤_, _<_};
+ghost use Prim.Native.Nat.{_≤_, _<_};
 ghost use lib.Dec.{ltb, leb, eqb};
 ghost use lib.ListN.{getD};
 ghost use Rattle.input.specs.Limits.{most-rows, most-identifier, whole};
@@ -106,13 +106,7 @@ fn root_sound(parents: &RowWords, depths: &RowWords, shares: &RowWords) -> bool
 }
 
 // Whether row r, which is not the root, stands below a row in use, at the next depth, with an allowed share.
-fn class_sound(
-    n: usize,
-    parents: &RowWords,
-    depths: &RowWords,
-    shares: &RowWords,
-    r: usize,
-) -> bool
+fn class_sound(n: usize, parents: &RowWords, depths: &RowWords, shares: &RowWords, r: usize) -> bool
     requires { ⌜ n ≤ most-rows ⌝ }
     requires { ⌜ r < n ⌝ }
     ensures { λ b. ⌜ ((tree : Tree) → tree .rows ≡ n → tree .parents ≡ now (parents .entry) → tree .depths ≡ now (depths .entry) → tree .shares ≡ now (shares .entry)

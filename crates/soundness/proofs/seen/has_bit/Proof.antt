@@ -1,6 +1,5 @@
 -- `has_bit` meets its contract: a shift and a remainder find a bit.
 -- Assumes nothing.
-use mathlib.Core.Path.{_≡_, refl, sym}
 use borrow.Author.Needs.{needs}
 use Rattle.soundness.proofs.Bitwise.{bit-shifted}
 use Rattle.soundness.proofs.seen.has_bit.Statement.{statement}

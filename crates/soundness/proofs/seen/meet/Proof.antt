@@ -1,10 +1,9 @@
 -- `meet` meets its contract: one bit is set, and no other moves.
 -- Assumes nothing.
-use mathlib.Core.Path.{_≡_, sym, _∙_}
+use mathlib.Core.Path.{_∙_}
 use native.Mathlib.Omega.{arith}
 use borrow.Author.Needs.{needs}
-use lib.ListN.{getD, length-set}
-use Rattle.soundness.specs.Bits.{bit, word-bits}
+use lib.ListN.{length-set}
 use Rattle.soundness.proofs.Bitwise.{unmet, met-more}
 use Rattle.soundness.proofs.seen.meet.Statement.{statement}
 use Rattle.soundness.proofs.seen.meet.Tie as tie
@@ -34,8 +33,7 @@ returns c =
     let s = c .before .before .before in
     let table = s .args .table .now in
     let x = s .args .x in
-    let unset = unmet table x (s .pre .1 .1) in
-    (
+    let unset = unmet table x (s .pre .1 .1) in (
       λ y. rw (c .with-bit .ensures, c .before .before .wide .ensures .0) (met-more table x (omega arith) unset y),
       length-set table (c .before .before .wide .result) _ ∙ s .pre .1 .0,
     )

@@ -1,6 +1,5 @@
 -- `met` meets its contract.
 -- Assumes nothing.
-use native.Mathlib.Omega.{arith}
 use borrow.Author.Needs.{needs}
 use Rattle.soundness.specs.Bits.{met}
 use Rattle.soundness.proofs.seen.met.Statement.{statement}

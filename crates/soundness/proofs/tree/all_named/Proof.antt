@@ -1,8 +1,8 @@
 -- `all_named` meets its contract: the rows passed are named, and the table has their identifiers.
 -- Assumes nothing.
-use Prim.Native.Nat.{ℕ, suc, _-_, _≤_}
+use Prim.Native.Nat.{ℕ, _-_, _≤_}
 use mathlib.Core.Path.{_≡_, refl, sym, _∙_}
-use mathlib.Core.Bool.{Bool, true, false, not, _&&_}
+use mathlib.Core.Bool.{true, not, _&&_}
 use native.Mathlib.Numerals.{add-one}
 use native.Mathlib.Omega.{arith}
 use borrow.Author.Needs.{needs}
@@ -51,8 +51,7 @@ meet-requires c κs =
     let at = c .before .before .before .before .before .before in
     let x = getD (at .before .args .identifiers .now) (at .loop .r) 0 in
     let new = sym (c .before .before .is-new .ensures) ∙ not-false (c .before .before .is-new .result) (c .before .if1 .left) in
-    let later = both-right (ltb 0 x) (leb x most-identifier && not (met (at .loop .table) x)) new in
-    (
+    let later = both-right (ltb 0 x) (leb x most-identifier && not (met (at .loop .table) x)) new in (
       leb-true x most-identifier (both-left (leb x most-identifier) (not (met (at .loop .table) x)) later),
       (at .loop .inv .1, not-true (met (at .loop .table) x) (both-right (leb x most-identifier) (not (met (at .loop .table) x)) later)),
     )
@@ -69,8 +68,7 @@ loop-again c =
     let ids = at .before .args .identifiers .now in
     let r = at .loop .r in
     let new = c .before .before .before .is-new in
-    let this = sym (newly-test ids (at .loop .table) r (at .loop .inv .3)) ∙ sym (new .ensures) ∙ not-false (new .result) (c .before .before .if1 .left) in
-    (
+    let this = sym (newly-test ids (at .loop .table) r (at .loop .inv .3)) ∙ sym (new .ensures) ∙ not-false (new .result) (c .before .before .if1 .left) in (
       omega arith,
       c .meet .ensures .1,
       rw add-one (all-more r (newly ids) (at .loop .inv .2) this),

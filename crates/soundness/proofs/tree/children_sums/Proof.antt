@@ -1,11 +1,11 @@
 -- `children_sums` meets its contract: the rows passed are added up for their parents.
 -- Assumes nothing.
-use Prim.Native.Nat.{ℕ, suc, _+_, _*_, _-_, _^_, _≤_, _<_, max}
+use Prim.Native.Nat.{ℕ, _+_, _*_, _-_, _^_, _≤_, _<_, max}
 use mathlib.Core.Path.{_≡_, refl, sym, _∙_}
 use native.Mathlib.Numerals.{add-one}
 use native.Mathlib.Omega.{arith}
 use borrow.Author.Needs.{needs}
-use lib.ListN.{length, getD, length-set, getD-replicate}
+use lib.ListN.{length, getD, length-set}
 use Rattle.words.proofs.Entries.{entry-set}
 use Rattle.input.specs.Limits.{most-rows}
 use Rattle.input.specs.Classes.{Tree}
@@ -24,14 +24,13 @@ abbrev μ-loop : tie.MeasureT-loop
 μ-loop n parents list sums₀ r₀ sums r = n - r
 
 loop-holds : tie.Need-loop-holds Inv-loop μ-loop
-loop-holds c =
-    (
-      omega arith,
-      omega arith,
-      refl,
-      λ p. rw (zero-words most-rows p) (omega arith),
-      λ tree e p inside. zero-words most-rows p ∙ sym (sums-start tree (c .args .list .now) p),
-    )
+loop-holds c = (
+  omega arith,
+  omega arith,
+  refl,
+  λ p. rw (zero-words most-rows p) (omega arith),
+  λ tree e p inside. zero-words most-rows p ∙ sym (sums-start tree (c .args .list .now) p),
+)
 
 mul-wide : tie.Need-mul-wide Inv-loop μ-loop
 mul-wide c = search needs
@@ -88,17 +87,16 @@ loop-again c =
     let r = at .loop .r in
     let p = c .before .before .wide .result in
     let few = at .loop .inv .3 p in
-    let new : getD sums p 0 + c .long .result ≤ (r + 1) * 2 ^ 32 = omega (arith, c .long .ensures .1) in
-    (
+    let new : getD sums p 0 + c .long .result ≤ (r + 1) * 2 ^ 32 = omega (arith, c .long .ensures .1) in (
       omega arith,
       omega arith,
       length-set sums p _ ∙ at .loop .inv .2,
       λ q.
-        let old = at .loop .inv .3 q in
-        entry-set (λ (x : ℕ). x ≤ (r + 1) * 2 ^ 32) sums p (getD sums p 0 + c .long .result) q new (omega arith),
+          let old = at .loop .inv .3 q in
+          entry-set (λ (x : ℕ). x ≤ (r + 1) * 2 ^ 32) sums p (getD sums p 0 + c .long .result) q new (omega arith),
       λ tree e q inside.
-        rw (add-one, c .before .before .wide .ensures .0, c .long .ensures .0, ← e)
-        (sums-turn tree (at .before .args .list .now) sums r (at .loop .inv .0) (at .loop .inv .2) (at .loop .inv .4 tree e) q inside),
+          rw (add-one, c .before .before .wide .ensures .0, c .long .ensures .0, ← e)
+          (sums-turn tree (at .before .args .list .now) sums r (at .loop .inv .0) (at .loop .inv .2) (at .loop .inv .4 tree e) q inside),
     )
 
 returns : tie.Need-returns Inv-loop μ-loop

@@ -1,8 +1,6 @@
 -- `class_sound` meets its contract: its answers go by the tests on their way.
 -- Assumes nothing.
-use Prim.Native.Nat.{suc, _+_, _≤_, _<_}
-use mathlib.Core.Path.{_≡_, refl, sym}
-use native.Mathlib.Numerals.{add-one}
+use Prim.Native.Nat.{suc}
 use native.Mathlib.Omega.{arith}
 use borrow.Author.Needs.{needs}
 use borrow.Author.Tests.{eq-eqb, ne-eqb, lt-ltb, le-ltb, le-leb, lt-leb}

@@ -1,8 +1,8 @@
 -- `classes_sound` meets its contract: the rows passed are sound.
 -- Assumes nothing.
-use Prim.Native.Nat.{ℕ, suc, _-_, _≤_, _<_}
+use Prim.Native.Nat.{_-_, _≤_, _<_}
 use mathlib.Core.Path.{_≡_, refl, sym, _∙_}
-use mathlib.Core.Bool.{true, false, _||_}
+use mathlib.Core.Bool.{true, _||_}
 use native.Mathlib.Numerals.{add-one}
 use native.Mathlib.Omega.{arith}
 use borrow.Author.Needs.{needs}
@@ -46,13 +46,12 @@ loop-less c = search needs
 loop-again : tie.Need-loop-again Inv-loop μ-loop
 loop-again c =
     let at = c .before .before .before in
-    let r = at .loop .r in
-    (
+    let r = at .loop .r in (
       omega arith,
       omega arith,
       λ tree e1 e2 e3 e4.
-        let this = sym (c .before .class-sound .ensures tree e1 e2 e3 e4) ∙ not-false (c .before .class-sound .result) (c .if1 .left) in
-        rw add-one (all-more r (λ q. eqb q 0 || class-sound tree q) (at .loop .inv .2 tree e1 e2 e3 e4) (rw (ne-eqb r 0 (omega arith)) this)),
+          let this = sym (c .before .class-sound .ensures tree e1 e2 e3 e4) ∙ not-false (c .before .class-sound .result) (c .if1 .left) in
+          rw add-one (all-more r (λ q. eqb q 0 || class-sound tree q) (at .loop .inv .2 tree e1 e2 e3 e4) (rw (ne-eqb r 0 (omega arith)) this)),
     )
 
 returns-2 : tie.Need-returns-2 Inv-loop μ-loop

@@ -1,8 +1,6 @@
 -- `is_new` meets its contract: its answers go by the tests on their way.
 -- Assumes nothing.
 use native.Mathlib.Omega.{arith}
-use mathlib.Core.Path.{_≡_, sym, ap}
-use mathlib.Core.Bool.{not}
 use borrow.Author.Needs.{needs}
 use borrow.Author.Tests.{lt-ltb, le-leb, lt-leb}
 use Rattle.input.specs.Limits.{most-identifier}

@@ -1,9 +1,7 @@
 -- `root_sound` meets its contract: its answers go by the tests on their way.
 -- Assumes nothing.
-use native.Mathlib.Omega.{arith}
 use borrow.Author.Needs.{needs}
 use borrow.Author.Tests.{eq-eqb, ne-eqb}
-use lib.ListN.{getD}
 use Rattle.live_rules.specs.Soundness.{root-sound}
 use Rattle.soundness.proofs.tree.root_sound.Statement.{statement}
 use Rattle.soundness.proofs.tree.root_sound.Tie as tie

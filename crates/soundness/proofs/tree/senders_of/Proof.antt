@@ -50,14 +50,13 @@ loop-less c = search needs
 
 loop-again : tie.Need-loop-again Inv-loop μ-loop
 loop-again c =
-    let at = c .before .before .before in
-    (
+    let at = c .before .before .before in (
       omega arith,
       omega arith,
       length-set (at .loop .marks) (c .wide .result) false ∙ at .loop .inv .2,
       λ tree e p inside.
-        rw (add-one, c .wide .ensures .0, ← e)
-        (senders-turn tree (at .loop .marks) (at .loop .r) (at .loop .inv .0) (at .loop .inv .2) (at .loop .inv .3 tree e) p inside),
+          rw (add-one, c .wide .ensures .0, ← e)
+          (senders-turn tree (at .loop .marks) (at .loop .r) (at .loop .inv .0) (at .loop .inv .2) (at .loop .inv .3 tree e) p inside),
     )
 
 returns : tie.Need-returns Inv-loop μ-loop

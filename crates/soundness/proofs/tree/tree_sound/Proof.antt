@@ -1,8 +1,7 @@
 -- `tree_sound` meets its contract: the parts of a sound tree one after the other, the parents' range before they are indices.
 -- Assumes nothing.
-use Prim.Native.Nat.{ℕ, _≤_, _<_}
-use mathlib.Core.Path.{_≡_, refl, sym, ap, _∙_}
-use mathlib.Core.Bool.{Bool}
+use Prim.Native.Nat.{ℕ}
+use mathlib.Core.Path.{refl, sym, ap, _∙_}
 use native.Mathlib.Omega.{arith}
 use borrow.Author.Needs.{needs}
 use borrow.Author.Tests.{not-true, not-false}
@@ -61,7 +60,7 @@ children-sums-requires c κs =
     let one = at .before .before .before .root-sound in
     let three = c .before .classes-sound in
     let inside = parents-inside tree (sym (one .ensures tree refl refl refl) ∙ not-false (one .result) (at .before .before .if1 .left))
-      (sym (three .ensures tree refl refl refl refl) ∙ not-false (three .result) (c .if3 .left)) in
+    (sym (three .ensures tree refl refl refl refl) ∙ not-false (three .result) (c .if3 .left)) in
     (search needs, λ r below. let this = inside r below in omega arith)
 
 within-whole-requires : tie.Need-within-whole-requires
@@ -78,11 +77,11 @@ returns-4 c =
     let three = last .before .classes-sound in
     let four = c .before .before .children-sums in
     let decide = sums-decide tree (sym (one .ensures tree refl refl refl) ∙ not-false (one .result) (at .before .before .if1 .left))
-      (sym (two .ensures tree refl refl) ∙ not-false (two .result) (at .if2 .left))
-      (sym (three .ensures tree refl refl refl refl) ∙ not-false (three .result) (last .if3 .left)) in
+    (sym (two .ensures tree refl refl) ∙ not-false (two .result) (at .if2 .left))
+    (sym (three .ensures tree refl refl refl refl) ∙ not-false (three .result) (last .if3 .left)) in
     c .within-whole .ensures
     ∙ all-same (a .n) (λ p. leb (getD (four .result) p 0) whole) (λ p. leb (children-sum tree (a .shares .now) p (a .n)) whole)
-      (λ p inside. ap (λ (sum : ℕ). leb sum whole) (four .ensures tree refl p (omega arith)))
+    (λ p inside. ap (λ (sum : ℕ). leb sum whole) (four .ensures tree refl p (omega arith)))
     ∙ sym decide
 
 pub tree-sound-spec : {M : Type 1} → statement M
