@@ -14,8 +14,7 @@ enum-told c = search needs
 
 list-children-requires : tie.Need-list-children-requires
 list-children-requires c κs =
-    let known = c .before .before .before .before .pre in
-    (
+    let known = c .before .before .before .before .pre in (
       known .0 .0,
       (
         known .0 .1,
