@@ -9,6 +9,7 @@ ghost use Rattle.rules.specs.Box.{fresh};
 ghost use Rattle.rules.specs.Outcome.{Ran};
 ghost use Rattle.heaps.specs.Sizes.{most-heaps, most-members};
 ghost use Rattle.heaps.specs.Heaps.{forest};
+ghost use Rattle.looking.specs.Arrays.{Inside};
 ghost use Rattle.choosing.specs.Filed.{Filed};
 ghost use Rattle.report.specs.Shown.{Sending};
 ghost use Rattle.events.specs.State.{Fit};
@@ -28,6 +29,7 @@ use input::RowWords;
 // Before the first event: to look at them, all children are listed; heaps are empty, as the arrays begin.
 pub fn open(way: Way, rows: usize, parents: &RowWords, roots: &mut Roots, right: &mut Sides)
     requires { ⌜ (0 < rows) × (rows ≤ most-rows) ⌝ }
+    requires { ⌜ Inside (now parents) ⌝ }
     requires { ⌜ (now roots ≡ lists.replicate most-heaps 0) × (now right ≡ lists.replicate most-members 0) ⌝ }
     ensures { λ _. ⌜ ((ids depths shares : List ℕ) (class-of : ℕ → ℕ)
         → Filed way (tree-with rows ids (now (parents .entry)) depths shares) class-of (fresh .rows) 0

@@ -14,8 +14,16 @@ enum-told c = search needs
 
 list-children-requires : tie.Need-list-children-requires
 list-children-requires c κs =
-    let known = c .before .before .before .before .pre in
-    (known .0 .0, (known .0 .1, (rw (known .1 .0) (length-replicate {A = ℕ} most-heaps 0), rw (known .1 .1) (length-replicate {A = ℕ} most-members 0))))
+    let known = c .before .before .before .before .pre in (
+      known .0 .0,
+      (
+        known .0 .1,
+        (
+          known .1 .0,
+          (rw (known .1 .1 .0) (length-replicate {A = ℕ} most-heaps 0), rw (known .1 .1 .1) (length-replicate {A = ℕ} most-members 0)),
+        ),
+      ),
+    )
 
 enum-told-2 : tie.Need-enum-told-2
 enum-told-2 c = search needs
@@ -27,7 +35,7 @@ returns c ids depths shares class-of = rw (c .before .before .before .enum-told 
 returns-2 : tie.Need-returns-2
 unfolding Filed
 returns-2 c ids depths shares class-of =
-    let known = c .before .before .pre .1 in
+    let known = c .before .before .pre .1 .1 in
     rw (c .enum-told2 .given .1, known .0, known .1) (none-waits _ class-of)
 
 pub open-spec : {M : Type 1} → statement M

@@ -111,8 +111,9 @@ module _ (a : tie.After-loop Inv-loop μ-loop) where
 
 open-requires : tie.Need-open-requires Inv-loop μ-loop
 open-requires c κs =
-    let sound = fit (c .before .before .before .before .before .before .before .before) .accepted .sound in
-    ((sound .some-rows, sound .few-rows), (refl, refl))
+    let fits = fit (c .before .before .before .before .before .before .before .before) in
+    let sound = fits .accepted .sound in
+    ((sound .some-rows, sound .few-rows), (fits .inside, (refl, refl)))
 
 clear-requires : tie.Need-clear-requires Inv-loop μ-loop
 clear-requires c κs = working-room (c .before .before .before .before .before .before .before .before .before .before)
