@@ -154,3 +154,18 @@ module _ (n : ℕ) (senders : List Bool) (limit : ℕ) where
         leb-true length most-bytes (parts .2),
         ltb-true name limit (parts .3),
       )
+
+-- sound packets have numbers within these ranges, at every place
+pub sound-ranged :
+    (tree : Tree) (senders : List Bool) (limit : ℕ) (words : List ℕ) (m : ℕ) → Senders tree (tree .rows) senders → tree .rows ≤ most-rows
+    → limit < 2 ^ 32 → (packets-sound tree (packets-at m words) && in-order limit 0 (packets-at m words)) ≡ true → Ranged words m
+unfolding fits-at
+sound-ranged tree senders limit words m marked few small holds =
+    record { classes = λ i below. omega (arith, bounds i below); lengths = λ i below. omega (arith, bounds i below); names = λ i below. omega (arith, bounds i below) }
+  where
+    bounds :
+        (i : ℕ) → i < m
+        → (class-at words i < tree .rows) × (0 < length-at words i) × (length-at words i ≤ most-bytes) × (name-at words i < limit)
+    bounds i below =
+        fits-bounds (tree .rows) senders limit (least-at words i) (class-at words i) (length-at words i) (name-at words i)
+        (all-each (fits-at (tree .rows) senders limit words) i m below (packets-fit tree (tree .rows) senders refl marked limit words m ∙ holds))

@@ -1,3 +1,8 @@
+-- `holding::packets::firsts_of` meets its contract: the packets passed are told.
+-- Assumes nothing.
+use Prim.Native.Nat.{_-_, _≤_}
+use mathlib.Core.Path.{_≡_}
+use Rattle.holding.proofs.Queues.{Tally, tally-none, tally-more}
 use native.Mathlib.Omega.{arith}
 use borrow.Author.Needs.{needs}
 use Rattle.holding.proofs.packets.firsts_of.Statement.{statement}
@@ -8,14 +13,14 @@ use Rattle.holding.proofs.packets.first.Reads as first-reads
 use Rattle.holding.proofs.packets.row.Reads as row-reads
 
 abbrev Inv-loop : tie.InvT-loop
-Inv-loop words m counts₀ firsts₀ sizes₀ i₀ counts firsts sizes i = ?
+Inv-loop words m counts₀ firsts₀ sizes₀ i₀ counts firsts sizes i = (i ≤ m) × Tally words i counts firsts sizes
 
 abbrev μ-loop : tie.MeasureT-loop
-μ-loop words m counts₀ firsts₀ sizes₀ i₀ counts firsts sizes i = ?
+μ-loop words m counts₀ firsts₀ sizes₀ i₀ counts firsts sizes i = m - i
 
 -- src/packets.rt:98:5
 loop-holds : tie.Need-loop-holds Inv-loop μ-loop
-loop-holds c = search needs
+loop-holds c = (omega arith, tally-none (c .before .args .words .now))
 
 -- src/packets.rt:99:27
 add-row : tie.Need-add-row Inv-loop μ-loop
@@ -31,7 +36,7 @@ shared-slice-read-row c = search needs
 
 -- src/packets.rt:99:13
 row-requires : tie.Need-row-requires Inv-loop μ-loop
-row-requires c κs = search needs
+row-requires c κs = c .before .before .before .before .pre .2 .classes (c .before .before .loop .i) (omega arith)
 
 -- src/packets.rt:100:21
 mul-count : tie.Need-mul-count Inv-loop μ-loop
@@ -63,11 +68,11 @@ shared-slice-read-first c = search needs
 
 -- src/packets.rt:101:45
 add-first-2 : tie.Need-add-first-2 Inv-loop μ-loop
-add-first-2 c = search needs
+add-first-2 c = omega (arith, c .before .before .before .before .before .before .pre .2 .names (c .before .before .before .before .loop .i) (omega arith))
 
 -- src/packets.rt:101:21
 first-requires : tie.Need-first-requires Inv-loop μ-loop
-first-requires c κs = search needs
+first-requires c κs = omega (arith, c .before .before .before .before .before .before .pre .2 .names (c .before .before .before .before .loop .i) (omega arith))
 
 -- src/packets.rt:101:9
 mul-firsts : tie.Need-mul-firsts Inv-loop μ-loop
@@ -99,7 +104,7 @@ shared-slice-read-first-2 c = search needs
 
 -- src/packets.rt:102:20
 first-requires-2 : tie.Need-first-requires-2 Inv-loop μ-loop
-first-requires-2 c κs = search needs
+first-requires-2 c κs = c .before .before .before .before .before .before .before .before .pre .2 .lengths (c .before .before .before .before .before .before .loop .i) (omega arith)
 
 -- src/packets.rt:102:9
 mul-sizes : tie.Need-mul-sizes Inv-loop μ-loop
@@ -111,7 +116,7 @@ array-write-sizes c = search needs
 
 -- src/packets.rt:103:21
 add-counts : tie.Need-add-counts Inv-loop μ-loop
-add-counts c = search needs
+add-counts c = omega (arith, c .before .before .before .before .before .before .before .loop .inv .1 .few (c .before .before .before .before .row .result) (c .before .before .before .before .row .ensures .1))
 
 -- src/packets.rt:103:9
 mul-counts : tie.Need-mul-counts Inv-loop μ-loop
@@ -131,11 +136,23 @@ loop-less c = search needs
 
 -- src/packets.rt:98:5
 loop-again : tie.Need-loop-again Inv-loop μ-loop
-loop-again c = search needs
+loop-again c =
+    let at = c .before .before .before .before .before .before .before .loop in
+    let row = c .before .before .before .before .row in (
+      omega arith,
+      tally-more (c .before .before .before .before .before .before .before .before .before .args .words .now) (at .i) (at .counts) (at .firsts) (at .sizes) (at .inv .1) (row .result) (c .before .before .first .result) (c .first2 .result)
+      (row .ensures .1)
+      (row .ensures .0)
+      (c .before .before .first .ensures)
+      (c .first2 .ensures),
+    )
 
 -- src/packets.rt:90:1
 returns : tie.Need-returns Inv-loop μ-loop
-returns c = search needs
+returns c =
+    let at = c .before .loop in
+    let end : at .i ≡ c .before .before .before .args .m = omega arith in
+    rw end at (at .inv .1 .told)
 
 pub firsts-of-spec : {M : Type 1} → statement M
 firsts-of-spec =
