@@ -1,9 +1,10 @@
 -- A test of every number below n: what stops it, and two tests at once.
 -- Assumes nothing.
-use Prim.Native.Nat.{ℕ, zero, suc, _≤_, _<_}
+use Prim.Native.Nat.{ℕ, zero, suc, _+_, _≤_, _<_}
 use mathlib.Core.Path.{_≡_, refl, sym, ap₂, _∙_}
 use mathlib.Core.Bool.{Bool, true, false, cond, _&&_, and-false}
 use native.Mathlib.Decide.{ℕ-discrete}
+use native.Mathlib.Numerals.{add-one}
 use native.Mathlib.Omega.{arith}
 use Rattle.live_rules.specs.Soundness.{all}
 
@@ -16,6 +17,11 @@ all-stops test i (suc n) below fails = go (ℕ-discrete i n) (λ earlier. all-st
     go : Dec (i ≡ n) → (i < n → all n test ≡ false) → (all n test && test n) ≡ false
     go (yes same) before = rw (← same, fails) (and-false (all i test))
     go (no other) before = rw (before (omega arith))
+
+-- one more that holds
+pub all-on : (test : ℕ → Bool) (i : ℕ) → all i test ≡ true → test i ≡ true → all (i + 1) test ≡ true
+unfolding all
+all-on test i before holds = rw (add-one i, before, holds)
 
 -- the same of two tests that agree below n
 pub all-same : (one other : ℕ → Bool) (n : ℕ) → ((i : ℕ) → i < n → one i ≡ other i) → all n one ≡ all n other

@@ -1,8 +1,12 @@
 // The test of a live state's packets and of what each row holds: it reads the lent words and the rows' numbers, and writes nothing.
 mod packets;
+mod row;
+mod rows;
 
 pub use packets::firsts_of;
 pub use packets::packets_sound;
+pub use rows::matches_of;
+pub use rows::rows_sound;
 
 use input::RowWords;
 

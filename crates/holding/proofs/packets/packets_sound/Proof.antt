@@ -8,7 +8,7 @@ use borrow.Author.Tests.{not-true, not-false}
 use Rattle.live_rules.specs.Soundness.{all}
 use Rattle.holding.specs.Packets.{fits-at, least-at}
 use Rattle.holding.proofs.All.{all-stops}
-use Rattle.holding.proofs.Held.{packets-fit, fits-turn, fits-bounds}
+use Rattle.holding.proofs.Fitting.{packets-fit, fits-turn, fits-bounds}
 use native.Mathlib.Omega.{arith}
 use borrow.Author.Needs.{needs}
 use Rattle.holding.proofs.packets.packets_sound.Statement.{statement}
