@@ -112,6 +112,20 @@ module _ {n left : ℕ} {parents shares : List ℕ} {senders : List Bool} {start
   unfolding holding-sound senders-tested inners-tested sender-test inner-test
   holding-so r below = rw (l .senders-so r below, sender-so r below, inner-so r below) (parted (getD senders r false) _ _)
 
+  tags-lists : (r : ℕ) → tags-sound (live .tree) (live .rows) r ≡ tags-tested shares starts finishes heads head-lengths r
+  tags-lists r =
+      rw (← l .shares-so, ← l .starts-so, ← l .finishes-so, ← l .heads-so, ← l .head-lengths-so) (sym (tags-so (live .tree) (live .rows) r))
+
+  sizes-lists :
+      (r : ℕ) → sizes-sound (live .tree) (gone live) (live .rows) r ≡ sizes-tested left parents starts finishes virtuals heads head-classes r
+  sizes-lists r =
+      rw (← l .left-so, ← l .parents-so, ← l .starts-so, ← l .finishes-so, ← l .virtuals-so, ← l .heads-so, ← l .head-classes-so)
+      (sym (sizes-so (live .tree) (gone live) (live .rows) r))
+
+  counts-lists : (r : ℕ) → counts-sound live r ≡ counts-tested left parents bytes since parent-since r
+  counts-lists r =
+      rw (← l .left-so, ← l .parents-so, ← l .bytes-so, ← l .since-so, ← l .parent-since-so) (sym (counts-so live r))
+
   row-so :
       (r : ℕ) → r < n
       → row-sound live r
@@ -121,12 +135,7 @@ module _ {n left : ℕ} {parents shares : List ℕ} {senders : List Bool} {start
       && (sizes-tested left parents starts finishes virtuals heads head-classes r && counts-tested left parents bytes since parent-since r))))
   unfolding row-sound
   row-so r below =
-      ap₂ _&&_ (holding-so r below)
-      (ap₂ _&&_ (sym (tags-so (live .tree) (live .rows) r) ∙ rw (l .shares-so, l .starts-so, l .finishes-so, l .heads-so, l .head-lengths-so))
-      (ap₂ _&&_
-      (sym (sizes-so (live .tree) (gone live) (live .rows) r)
-      ∙ rw (l .left-so, l .parents-so, l .starts-so, l .finishes-so, l .virtuals-so, l .heads-so, l .head-classes-so))
-      (sym (counts-so live r) ∙ rw (l .left-so, l .parents-so, l .bytes-so, l .since-so, l .parent-since-so))))
+      ap₂ _&&_ (holding-so r below) (ap₂ _&&_ (tags-lists r) (ap₂ _&&_ (sizes-lists r) (counts-lists r)))
       ∙ and-assoc (senders-tested senders held counts virtuals heads head-lengths head-classes firsts sizes r)
       (inners-tested senders held sums marks heads head-lengths head-classes r)
       _

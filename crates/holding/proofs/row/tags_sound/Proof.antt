@@ -1,6 +1,8 @@
 -- `holding::row::tags_sound` meets its contract: a finish before the start is none with a charge, so what is between them is compared with it.
 -- Assumes nothing.
 use Prim.Native.Nat.{_+_}
+use mathlib.Core.Bool.{not}
+use lib.Dec.{eqb}
 use borrow.Author.Tests.{eq-eqb, ne-eqb, lt-ltb, le-ltb, le-leb, lt-leb, not-true, not-false}
 use Rattle.input.specs.Shares.{charge}
 use Rattle.holding.specs.Row.{tags-test}
@@ -34,7 +36,7 @@ returns-3 c =
       ne-eqb (s .finish) (s .start + charge (s .size) (s .share)) (λ e. omega arith),
       lt-leb (s .start) (s .finish) (omega arith),
     )
-    (neither _)
+    (neither (not (eqb (s .head) 0)))
 
 returns-4 : tie.Need-returns-4
 unfolding tags-test
