@@ -1,10 +1,9 @@
 -- The packets held are sound where each of them fits by its numbers, place by place.
 -- Assumes nothing.
-use Prim.Native.Nat.{ℕ, zero, suc, _+_, _≤_, _<_, _^_}
+use Prim.Native.Nat.{ℕ, zero, suc, _≤_, _<_, _^_}
 use mathlib.Core.Path.{_≡_, refl, sym, subst, ap, ap₂, _∙_}
-use mathlib.Core.Bool.{Bool, true, false, cond, _&&_, and-true}
+use mathlib.Core.Bool.{Bool, true, false, _&&_, and-true}
 use mathlib.Core.List.{List, [], _∷_, _++_}
-use native.Mathlib.Decide.{ℕ-discrete}
 use native.Mathlib.Omega.{arith}
 use borrow.Author.Tests.{ltb-true, leb-true}
 use lib.Dec.{T, ltb, leb}
@@ -147,8 +146,7 @@ module _ (n : ℕ) (senders : List Bool) (limit : ℕ) where
       → (class < n) × (0 < length) × (length ≤ most-bytes) × (name < limit)
   unfolding fits
   fits-bounds least class length name holds =
-      let parts = fits-parts (ltb class n) (getD senders class false) _ _ (leb least name) (ltb name limit) holds in
-      (
+      let parts = fits-parts (ltb class n) (getD senders class false) _ _ (leb least name) (ltb name limit) holds in (
         ltb-true class n (parts .0),
         leb-true least-bytes length (parts .1),
         leb-true length most-bytes (parts .2),

@@ -1,7 +1,7 @@
 -- What each class's queue begins with, one packet more at a time.
 -- Assumes nothing.
-use Prim.Native.Nat.{ℕ, zero, suc, _+_, _≤_, _<_}
-use mathlib.Core.Path.{_≡_, refl, sym, ap, ap₂, _∙_}
+use Prim.Native.Nat.{ℕ, suc, _+_, _≤_, _<_}
+use mathlib.Core.Path.{_≡_, refl, sym, ap, _∙_}
 use mathlib.Core.Bool.{Bool, true, false, cond}
 use mathlib.Core.List.{List, [], _∷_, _++_, append-nil}
 use native.Mathlib.Decide.{ℕ-discrete}
@@ -60,11 +60,11 @@ tally-none words =
       long-sizes = length-replicate {A = ℕ} most-rows 0;
       few = λ k below. omega (arith, getD-replicate {A = ℕ} most-rows k 0 0 below);
       told =
-        record {
-          count = λ k below. getD-replicate {A = ℕ} most-rows k 0 0 below;
-          first = λ k below. getD-replicate {A = ℕ} most-rows k 0 0 below;
-          size = λ k below. getD-replicate {A = ℕ} most-rows k 0 0 below;
-        };
+          record {
+            count = λ k below. getD-replicate {A = ℕ} most-rows k 0 0 below;
+            first = λ k below. getD-replicate {A = ℕ} most-rows k 0 0 below;
+            size = λ k below. getD-replicate {A = ℕ} most-rows k 0 0 below;
+          };
     }
 
 -- an entry of a list in which one is set
@@ -121,27 +121,27 @@ module _ (words : List ℕ) (i : ℕ) (counts firsts sizes : List ℕ) (t : Tall
         long-firsts = length-set firsts j v ∙ t .long-firsts;
         long-sizes = length-set sizes j w ∙ t .long-sizes;
         few =
-          λ k below.
-          rw (entry counts j (getD counts j 0 + 1) k (t .long) inside)
-          (few-more (eqb j k) (getD counts j 0) (getD counts k 0) i (t .few j inside) (t .few k below));
+            λ k below.
+            rw (entry counts j (getD counts j 0 + 1) k (t .long) inside)
+            (few-more (eqb j k) (getD counts j 0) (getD counts k 0) i (t .few j inside) (t .few k below));
         told =
-          record {
-            count =
-              λ k below.
-              entry counts j (getD counts j 0 + 1) k (t .long) inside
-              ∙ counted q counts x j k (t .told .count j inside) (t .told .count k below) (ℕ-discrete j k)
-              ∙ ap length (more words i j k own-class);
-            first =
-              λ k below.
-              entry firsts j v k (t .long-firsts) inside
-              ∙ ap (λ (v : ℕ). cond (eqb j k) v (getD firsts k 0)) first-new
-              ∙ joined first-word (λ y later. refl) q counts firsts x j k (t .told .count j inside) (t .told .first j inside) (t .told .first k below) (ℕ-discrete j k)
-              ∙ ap first-word (more words i j k own-class);
-            size =
-              λ k below.
-              entry sizes j w k (t .long-sizes) inside
-              ∙ ap (λ (v : ℕ). cond (eqb j k) v (getD sizes k 0)) size-so
-              ∙ joined first-size (λ y later. refl) q counts sizes x j k (t .told .count j inside) (t .told .size j inside) (t .told .size k below) (ℕ-discrete j k)
-              ∙ ap first-size (more words i j k own-class);
-          };
+            record {
+              count =
+                  λ k below.
+                  entry counts j (getD counts j 0 + 1) k (t .long) inside
+                  ∙ counted q counts x j k (t .told .count j inside) (t .told .count k below) (ℕ-discrete j k)
+                  ∙ ap length (more words i j k own-class);
+              first =
+                  λ k below.
+                  entry firsts j v k (t .long-firsts) inside
+                  ∙ ap (λ (v : ℕ). cond (eqb j k) v (getD firsts k 0)) first-new
+                  ∙ joined first-word (λ y later. refl) q counts firsts x j k (t .told .count j inside) (t .told .first j inside) (t .told .first k below) (ℕ-discrete j k)
+                  ∙ ap first-word (more words i j k own-class);
+              size =
+                  λ k below.
+                  entry sizes j w k (t .long-sizes) inside
+                  ∙ ap (λ (v : ℕ). cond (eqb j k) v (getD sizes k 0)) size-so
+                  ∙ joined first-size (λ y later. refl) q counts sizes x j k (t .told .count j inside) (t .told .size j inside) (t .told .size k below) (ℕ-discrete j k)
+                  ∙ ap first-size (more words i j k own-class);
+            };
       }

@@ -1,21 +1,21 @@
 -- Rows are sound where the tests over their lists hold.
 -- Assumes nothing.
-use Prim.Native.Nat.{ℕ, zero, suc, _+_, _<_}
+use Prim.Native.Nat.{ℕ, suc, _+_, _<_}
 use mathlib.Core.Path.{_≡_, refl, sym, ap, ap₂, _∙_}
-use mathlib.Core.Bool.{Bool, true, false, cond, not, _&&_, _||_, and-assoc}
+use mathlib.Core.Bool.{Bool, true, false, cond, not, _&&_, and-assoc}
 use mathlib.Core.List.{List, [], _∷_}
 use native.Mathlib.Decide.{ℕ-discrete}
 use native.Mathlib.Omega.{arith}
-use borrow.Author.Tests.{eq-eqb, ne-eqb}
-use lib.Dec.{ltb, leb, eqb}
-use lib.ListN.{length, getD}
-use Rattle.input.specs.Classes.{Tree, parent, share, sends}
+use borrow.Author.Tests.{ne-eqb}
+use lib.Dec.{leb, eqb}
+use lib.ListN.{getD}
+use Rattle.input.specs.Classes.{Tree, share}
 use Rattle.input.specs.Shares.{charge}
-use Rattle.rules.specs.Box.{Packet, head, head-length, head-class, start, finish, virtual, has-head}
+use Rattle.rules.specs.Box.{Packet, head, head-length, head-class, start, finish, has-head}
 use Rattle.rules.specs.Box as run
 use Rattle.live_rules.specs.State.{Live, queue, gone}
-use Rattle.live_rules.specs.Soundness.{all, any, children-sum, headed, first-headed, sender-sound, took-child, inner-sound, holding-sound, tags-sound, level-most, untaken, sizes-sound, counts-sound, row-sound}
-use Rattle.holding.specs.Packets.{Senders, first-word, first-size}
+use Rattle.live_rules.specs.Soundness.{all, headed, first-headed, sender-sound, inner-sound, holding-sound, tags-sound, level-most, untaken, sizes-sound, counts-sound, row-sound}
+use Rattle.holding.specs.Packets.{first-word, first-size}
 use Rattle.holding.specs.Row.{same-head, sender-test, inner-test, tags-test, most-at, tag-at, sizes-test, counts-test}
 use Rattle.holding.specs.Rows.{senders-tested, inners-tested, tags-tested, sizes-tested, counts-tested, Loaded}
 use Rattle.holding.proofs.All.{all-same, all-both}

@@ -3,12 +3,11 @@ mod packets;
 mod row;
 mod rows;
 
+use input::RowWords;
 pub use packets::firsts_of;
 pub use packets::packets_sound;
 pub use rows::matches_of;
 pub use rows::rows_sound;
-
-use input::RowWords;
 
 // For each class how many packets it holds, and its first packet's name + 1 and bytes, both 0 where there is none.
 pub struct Firsts {

@@ -8,6 +8,7 @@ ghost use Rattle.input.specs.Limits.{most-rows};
 ghost use Rattle.live_rules.specs.Limits.{most-held};
 ghost use Rattle.live_rules.specs.Layout.{state-words};
 ghost use Rattle.holding.specs.Packets.{fits, PacketsTested, Ranged, FirstsTold};
+use crate::Firsts;
 use input::LEAST_BYTES;
 use input::MOST_BYTES;
 use input::MOST_ROWS;
@@ -15,7 +16,6 @@ use input::RowMarks;
 use live_rules::CLASSES_AT;
 use live_rules::LENGTHS_AT;
 use live_rules::NAMES_AT;
-use crate::Firsts;
 
 // A packet by its numbers: of a row that sends, with the bytes of a packet, its name from `least` on and below `limit`.
 fn fits(
@@ -58,7 +58,15 @@ pub fn packets_sound(words: &[u64], m: usize, n: usize, senders: &RowMarks, limi
     let mut i = 0;
     while i < m {
         let name = words[NAMES_AT + i];
-        if !fits(n, senders, least, limit, words[CLASSES_AT + i], words[LENGTHS_AT + i], name) {
+        if !fits(
+            n,
+            senders,
+            least,
+            limit,
+            words[CLASSES_AT + i],
+            words[LENGTHS_AT + i],
+            name,
+        ) {
             return false;
         }
         least = name + 1;

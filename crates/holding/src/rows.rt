@@ -35,7 +35,16 @@ pub fn matches_of(
     let mut t = 0;
     while t < n {
         let p = inside(parents[t]);
-        marks[p] = row::passed_on(marks[p], t, heads[t], head_lengths[t], head_classes[t], heads[p], head_lengths[p], head_classes[p]);
+        marks[p] = row::passed_on(
+            marks[p],
+            t,
+            heads[t],
+            head_lengths[t],
+            head_classes[t],
+            heads[p],
+            head_lengths[p],
+            head_classes[p],
+        );
         t += 1;
     }
     marks
@@ -60,7 +69,18 @@ fn senders_sound(
 {
     let mut r = 0;
     while r < n {
-        if !row::sender_sound(senders[r], r, held[r], counts[r], virtuals[r], heads[r], head_lengths[r], head_classes[r], firsts[r], sizes[r]) {
+        if !row::sender_sound(
+            senders[r],
+            r,
+            held[r],
+            counts[r],
+            virtuals[r],
+            heads[r],
+            head_lengths[r],
+            head_classes[r],
+            firsts[r],
+            sizes[r],
+        ) {
             return false;
         }
         r += 1;
@@ -85,7 +105,15 @@ fn inners_sound(
 {
     let mut r = 0;
     while r < n {
-        if !row::inner_sound(senders[r], held[r], sums[r], marks[r], heads[r], head_lengths[r], head_classes[r]) {
+        if !row::inner_sound(
+            senders[r],
+            held[r],
+            sums[r],
+            marks[r],
+            heads[r],
+            head_lengths[r],
+            head_classes[r],
+        ) {
             return false;
         }
         r += 1;
@@ -107,7 +135,14 @@ fn tags_sound(
 {
     let mut r = 0;
     while r < n {
-        if !row::tags_sound(r, starts[r], finishes[r], heads[r], head_lengths[r], shares[r]) {
+        if !row::tags_sound(
+            r,
+            starts[r],
+            finishes[r],
+            heads[r],
+            head_lengths[r],
+            shares[r],
+        ) {
             return false;
         }
         r += 1;
@@ -133,7 +168,17 @@ fn sizes_sound(
     let mut r = 0;
     while r < n {
         let p = inside(parents[r]);
-        if !row::sizes_sound(left, r, virtuals[r], starts[r], finishes[r], heads[r], head_classes[r], heads[p], head_classes[p]) {
+        if !row::sizes_sound(
+            left,
+            r,
+            virtuals[r],
+            starts[r],
+            finishes[r],
+            heads[r],
+            head_classes[r],
+            heads[p],
+            head_classes[p],
+        ) {
             return false;
         }
         r += 1;
@@ -192,16 +237,45 @@ pub fn rows_sound(
         (now (virtuals .entry)) (now (heads .entry)) (now («head_lengths» .entry)) (now («head_classes» .entry)) (now (bytes .entry)) (now (held .entry))
         (now (since .entry)) (now («parent_since» .entry)) (now (sums .entry)) (now (marks .entry)) (now (counts .entry)) (now (firsts .entry)) (now (sizes .entry))) n b ⌝ }
 {
-    if !senders_sound(n, senders, held, counts, virtuals, heads, head_lengths, head_classes, firsts, sizes) {
+    if !senders_sound(
+        n,
+        senders,
+        held,
+        counts,
+        virtuals,
+        heads,
+        head_lengths,
+        head_classes,
+        firsts,
+        sizes,
+    ) {
         return false;
     }
-    if !inners_sound(n, senders, held, sums, marks, heads, head_lengths, head_classes) {
+    if !inners_sound(
+        n,
+        senders,
+        held,
+        sums,
+        marks,
+        heads,
+        head_lengths,
+        head_classes,
+    ) {
         return false;
     }
     if !tags_sound(n, shares, starts, finishes, heads, head_lengths) {
         return false;
     }
-    if !sizes_sound(n, left, parents, starts, finishes, virtuals, heads, head_classes) {
+    if !sizes_sound(
+        n,
+        left,
+        parents,
+        starts,
+        finishes,
+        virtuals,
+        heads,
+        head_classes,
+    ) {
         return false;
     }
     counts_sound(n, left, parents, bytes, since, parent_since)

@@ -1,22 +1,16 @@
 -- `holding::packets::first` meets its contract: by the count.
 -- Assumes nothing.
 use borrow.Author.Tests.{ne-eqb}
-use native.Mathlib.Omega.{arith}
 use borrow.Author.Needs.{needs}
 use Rattle.holding.proofs.packets.first.Statement.{statement}
 use Rattle.holding.proofs.packets.first.Tie as tie
-use Rattle.holding.proofs.packets.first.Reads as reads
-use Rattle.holding.proofs.packets.first.Lts as lts
 
--- src/packets.rt:76:16
 cast-result : tie.Need-cast-result
 cast-result c = search needs
 
--- src/packets.rt:76:9
 returns : tie.Need-returns
 returns c = rw (c .if1 .taken)
 
--- src/packets.rt:71:1
 returns-2 : tie.Need-returns-2
 returns-2 c = rw (ne-eqb _ 0 (c .if1 .left))
 

@@ -7,10 +7,6 @@ use native.Mathlib.Omega.{arith}
 use borrow.Author.Needs.{needs}
 use Rattle.holding.proofs.packets.firsts_of.Statement.{statement}
 use Rattle.holding.proofs.packets.firsts_of.Tie as tie
-use Rattle.holding.proofs.packets.firsts_of.Reads as reads
-use Rattle.holding.proofs.packets.firsts_of.Lts as lts
-use Rattle.holding.proofs.packets.first.Reads as first-reads
-use Rattle.holding.proofs.packets.row.Reads as row-reads
 
 abbrev Inv-loop : tie.InvT-loop
 Inv-loop words m counts₀ firsts₀ sizes₀ i₀ counts firsts sizes i = (i ≤ m) × Tally words i counts firsts sizes
@@ -18,136 +14,105 @@ Inv-loop words m counts₀ firsts₀ sizes₀ i₀ counts firsts sizes i = (i �
 abbrev μ-loop : tie.MeasureT-loop
 μ-loop words m counts₀ firsts₀ sizes₀ i₀ counts firsts sizes i = m - i
 
--- src/packets.rt:98:5
 loop-holds : tie.Need-loop-holds Inv-loop μ-loop
 loop-holds c = (omega arith, tally-none (c .before .args .words .now))
 
--- src/packets.rt:99:27
 add-row : tie.Need-add-row Inv-loop μ-loop
 add-row c = search needs
 
--- src/packets.rt:99:21
 mul-row : tie.Need-mul-row Inv-loop μ-loop
 mul-row c = search needs
 
--- src/packets.rt:99:21
 shared-slice-read-row : tie.Need-shared-slice-read-row Inv-loop μ-loop
 shared-slice-read-row c = search needs
 
--- src/packets.rt:99:13
 row-requires : tie.Need-row-requires Inv-loop μ-loop
 row-requires c κs = c .before .before .before .before .pre .2 .classes (c .before .before .loop .i) (omega arith)
 
--- src/packets.rt:100:21
 mul-count : tie.Need-mul-count Inv-loop μ-loop
 mul-count c = search needs
 
--- src/packets.rt:100:21
 array-read-count : tie.Need-array-read-count Inv-loop μ-loop
 array-read-count c = search needs
 
--- src/packets.rt:101:34
 mul-first : tie.Need-mul-first Inv-loop μ-loop
 mul-first c = search needs
 
--- src/packets.rt:101:34
 array-read-first : tie.Need-array-read-first Inv-loop μ-loop
 array-read-first c = search needs
 
--- src/packets.rt:101:51
 add-first : tie.Need-add-first Inv-loop μ-loop
 add-first c = search needs
 
--- src/packets.rt:101:45
 mul-first-2 : tie.Need-mul-first-2 Inv-loop μ-loop
 mul-first-2 c = search needs
 
--- src/packets.rt:101:45
 shared-slice-read-first : tie.Need-shared-slice-read-first Inv-loop μ-loop
 shared-slice-read-first c = search needs
 
--- src/packets.rt:101:45
 add-first-2 : tie.Need-add-first-2 Inv-loop μ-loop
 add-first-2 c = omega (arith, c .before .before .before .before .before .before .pre .2 .names (c .before .before .before .before .loop .i) (omega arith))
 
--- src/packets.rt:101:21
 first-requires : tie.Need-first-requires Inv-loop μ-loop
 first-requires c κs = omega (arith, c .before .before .before .before .before .before .pre .2 .names (c .before .before .before .before .loop .i) (omega arith))
 
--- src/packets.rt:101:9
 mul-firsts : tie.Need-mul-firsts Inv-loop μ-loop
 mul-firsts c = search needs
 
--- src/packets.rt:101:9
 array-write-firsts : tie.Need-array-write-firsts Inv-loop μ-loop
 array-write-firsts c = search needs
 
--- src/packets.rt:102:33
 mul-first-3 : tie.Need-mul-first-3 Inv-loop μ-loop
 mul-first-3 c = search needs
 
--- src/packets.rt:102:33
 array-read-first-2 : tie.Need-array-read-first-2 Inv-loop μ-loop
 array-read-first-2 c = search needs
 
--- src/packets.rt:102:49
 add-first-3 : tie.Need-add-first-3 Inv-loop μ-loop
 add-first-3 c = search needs
 
--- src/packets.rt:102:43
 mul-first-4 : tie.Need-mul-first-4 Inv-loop μ-loop
 mul-first-4 c = search needs
 
--- src/packets.rt:102:43
 shared-slice-read-first-2 : tie.Need-shared-slice-read-first-2 Inv-loop μ-loop
 shared-slice-read-first-2 c = search needs
 
--- src/packets.rt:102:20
 first-requires-2 : tie.Need-first-requires-2 Inv-loop μ-loop
 first-requires-2 c κs = c .before .before .before .before .before .before .before .before .pre .2 .lengths (c .before .before .before .before .before .before .loop .i) (omega arith)
 
--- src/packets.rt:102:9
 mul-sizes : tie.Need-mul-sizes Inv-loop μ-loop
 mul-sizes c = search needs
 
--- src/packets.rt:102:9
 array-write-sizes : tie.Need-array-write-sizes Inv-loop μ-loop
 array-write-sizes c = search needs
 
--- src/packets.rt:103:21
 add-counts : tie.Need-add-counts Inv-loop μ-loop
 add-counts c = omega (arith, c .before .before .before .before .before .before .before .loop .inv .1 .few (c .before .before .before .before .row .result) (c .before .before .before .before .row .ensures .1))
 
--- src/packets.rt:103:9
 mul-counts : tie.Need-mul-counts Inv-loop μ-loop
 mul-counts c = search needs
 
--- src/packets.rt:103:9
 array-write-counts : tie.Need-array-write-counts Inv-loop μ-loop
 array-write-counts c = search needs
 
--- src/packets.rt:104:9
 add-i : tie.Need-add-i Inv-loop μ-loop
 add-i c = search needs
 
--- src/packets.rt:98:5
 loop-less : tie.Need-loop-less Inv-loop μ-loop
 loop-less c = search needs
 
--- src/packets.rt:98:5
 loop-again : tie.Need-loop-again Inv-loop μ-loop
 loop-again c =
     let at = c .before .before .before .before .before .before .before .loop in
     let row = c .before .before .before .before .row in (
       omega arith,
       tally-more (c .before .before .before .before .before .before .before .before .before .args .words .now) (at .i) (at .counts) (at .firsts) (at .sizes) (at .inv .1) (row .result) (c .before .before .first .result) (c .first2 .result)
-      (row .ensures .1)
-      (row .ensures .0)
-      (c .before .before .first .ensures)
-      (c .first2 .ensures),
+          (row .ensures .1)
+          (row .ensures .0)
+          (c .before .before .first .ensures)
+          (c .first2 .ensures),
     )
 
--- src/packets.rt:90:1
 returns : tie.Need-returns Inv-loop μ-loop
 returns c =
     let at = c .before .loop in

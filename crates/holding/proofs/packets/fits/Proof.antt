@@ -1,6 +1,5 @@
 -- `holding::packets::fits` meets its contract: each test that fails decides, and the last one decides else.
 -- Assumes nothing.
-use mathlib.Core.Path.{_≡_, refl, sym}
 use mathlib.Core.Bool.{false}
 use lib.ListN.{getD}
 use borrow.Author.Tests.{lt-ltb, le-ltb, le-leb, lt-leb, not-true, not-false}
@@ -10,57 +9,46 @@ use native.Mathlib.Omega.{arith}
 use borrow.Author.Needs.{needs}
 use Rattle.holding.proofs.packets.fits.Statement.{statement}
 use Rattle.holding.proofs.packets.fits.Tie as tie
-use Rattle.holding.proofs.packets.fits.Reads as reads
-use Rattle.holding.proofs.packets.fits.Lts as lts
 
--- src/packets.rt:35:9
 returns : tie.Need-returns
 unfolding fits
 returns c =
     let s = c .before .args in
     rw (le-ltb (s .class) (s .n) (omega arith))
 
--- src/packets.rt:37:9
 element-copy-out-if2 : tie.Need-element-copy-out-if2
 element-copy-out-if2 c = search needs
 
--- src/packets.rt:38:9
 returns-2 : tie.Need-returns-2
 unfolding fits
 returns-2 c =
     let s = c .before .before .before .args in
     rw (lt-ltb (s .class) (s .n) (omega arith), not-true (getD (s .senders .now) (s .class) false) (c .if2 .taken))
 
--- src/packets.rt:40:17
 cast-if3 : tie.Need-cast-if3
 cast-if3 c = search needs
 
--- src/packets.rt:41:9
 returns-3 : tie.Need-returns-3
 unfolding fits
 returns-3 c =
     let s = c .before .before .before .before .args in
     rw (lt-ltb (s .class) (s .n) (omega arith), not-false (getD (s .senders .now) (s .class) false) (c .before .if2 .left), lt-leb least-bytes (s .length) (omega arith))
 
--- src/packets.rt:43:9
 cast-if4 : tie.Need-cast-if4
 cast-if4 c = search needs
 
--- src/packets.rt:44:9
 returns-4 : tie.Need-returns-4
 unfolding fits
 returns-4 c =
     let s = c .before .before .before .before .before .args in
     rw (lt-ltb (s .class) (s .n) (omega arith), not-false (getD (s .senders .now) (s .class) false) (c .before .before .if2 .left), le-leb least-bytes (s .length) (omega arith), lt-leb (s .length) most-bytes (omega arith))
 
--- src/packets.rt:47:9
 returns-5 : tie.Need-returns-5
 unfolding fits
 returns-5 c =
     let s = c .before .before .before .before .before .before .args in
     rw (lt-ltb (s .class) (s .n) (omega arith), not-false (getD (s .senders .now) (s .class) false) (c .before .before .before .if2 .left), le-leb least-bytes (s .length) (omega arith), le-leb (s .length) most-bytes (omega arith), lt-leb (s .least) (s .name) (omega arith))
 
--- src/packets.rt:21:1
 returns-6 : tie.Need-returns-6
 unfolding fits
 returns-6 c =

@@ -2,7 +2,7 @@
 -- Assumes nothing.
 use Prim.Native.Nat.{_-_, _≤_}
 use mathlib.Core.Path.{_≡_, refl, sym, _∙_}
-use mathlib.Core.Bool.{true, false, _&&_}
+use mathlib.Core.Bool.{true}
 use native.Mathlib.Numerals.{add-one}
 use borrow.Author.Tests.{not-true, not-false}
 use Rattle.live_rules.specs.Soundness.{all}
@@ -13,9 +13,6 @@ use native.Mathlib.Omega.{arith}
 use borrow.Author.Needs.{needs}
 use Rattle.holding.proofs.packets.packets_sound.Statement.{statement}
 use Rattle.holding.proofs.packets.packets_sound.Tie as tie
-use Rattle.holding.proofs.packets.packets_sound.Reads as reads
-use Rattle.holding.proofs.packets.packets_sound.Lts as lts
-use Rattle.holding.proofs.packets.fits.Reads as fits-reads
 
 abbrev Inv-loop : tie.InvT-loop
 Inv-loop words m n senders limit least₀ i₀ least i = (i ≤ m) × (least ≡ least-at words i) × (all i (fits-at n senders limit words) ≡ true)
@@ -23,63 +20,50 @@ Inv-loop words m n senders limit least₀ i₀ least i = (i ≤ m) × (least ≡
 abbrev μ-loop : tie.MeasureT-loop
 μ-loop words m n senders limit least₀ i₀ least i = m - i
 
--- src/packets.rt:59:5
 loop-holds : tie.Need-loop-holds Inv-loop μ-loop
 unfolding all least-at
 loop-holds c = (omega arith, refl, refl)
 
--- src/packets.rt:60:26
 add-name : tie.Need-add-name Inv-loop μ-loop
 add-name c = search needs
 
--- src/packets.rt:60:20
 mul-name : tie.Need-mul-name Inv-loop μ-loop
 mul-name c = search needs
 
--- src/packets.rt:60:20
 shared-slice-read-name : tie.Need-shared-slice-read-name Inv-loop μ-loop
 shared-slice-read-name c = search needs
 
--- src/packets.rt:61:50
 add-fits : tie.Need-add-fits Inv-loop μ-loop
 add-fits c = search needs
 
--- src/packets.rt:61:44
 mul-fits : tie.Need-mul-fits Inv-loop μ-loop
 mul-fits c = search needs
 
--- src/packets.rt:61:44
 shared-slice-read-fits : tie.Need-shared-slice-read-fits Inv-loop μ-loop
 shared-slice-read-fits c = search needs
 
--- src/packets.rt:61:73
 add-fits-2 : tie.Need-add-fits-2 Inv-loop μ-loop
 add-fits-2 c = search needs
 
--- src/packets.rt:61:67
 mul-fits-2 : tie.Need-mul-fits-2 Inv-loop μ-loop
 mul-fits-2 c = search needs
 
--- src/packets.rt:61:67
 shared-slice-read-fits-2 : tie.Need-shared-slice-read-fits-2 Inv-loop μ-loop
 shared-slice-read-fits-2 c = search needs
 
--- src/packets.rt:61:13
 fits-requires : tie.Need-fits-requires Inv-loop μ-loop
 fits-requires c κs = search needs
 
--- src/packets.rt:62:13
 returns : tie.Need-returns Inv-loop μ-loop
-returns c = 
+returns c =
     let at = c .before .before .before .before .before .before .loop in
     let s = c .before .before .before .before .before .before .before .before .args in
     λ tree same marked.
     let fails = fits-turn (s .n) (s .senders .now) (s .limit) (s .words .now) (at .i) (at .least) (at .inv .1)
-        ∙ sym (c .before .fits2 .ensures) ∙ not-true (c .before .fits2 .result) (c .if1 .taken) in
+    ∙ sym (c .before .fits2 .ensures) ∙ not-true (c .before .fits2 .result) (c .if1 .taken) in
     sym (all-stops (fits-at (s .n) (s .senders .now) (s .limit) (s .words .now)) (at .i) (s .m) (omega arith) fails)
     ∙ packets-fit tree (s .n) (s .senders .now) same marked (s .limit) (s .words .now) (s .m)
 
--- src/packets.rt:64:17
 add-least : tie.Need-add-least Inv-loop μ-loop
 add-least c =
     let at = c .before .before .before .before .before .before .loop in
@@ -88,25 +72,21 @@ add-least c =
     let bounds = fits-bounds (s .n) (s .senders .now) (s .limit) _ _ _ _ holds in
     omega arith
 
--- src/packets.rt:65:9
 add-i : tie.Need-add-i Inv-loop μ-loop
 add-i c = search needs
 
--- src/packets.rt:59:5
 loop-less : tie.Need-loop-less Inv-loop μ-loop
 loop-less c = search needs
 
--- src/packets.rt:59:5
 loop-again : tie.Need-loop-again Inv-loop μ-loop
 unfolding all least-at
 loop-again c =
     let at = c .before .before .before .before .before .before .loop in
     let s = c .before .before .before .before .before .before .before .before .args in
     let holds = fits-turn (s .n) (s .senders .now) (s .limit) (s .words .now) (at .i) (at .least) (at .inv .1)
-        ∙ sym (c .before .fits2 .ensures) ∙ not-false (c .before .fits2 .result) (c .if1 .left) in
+    ∙ sym (c .before .fits2 .ensures) ∙ not-false (c .before .fits2 .result) (c .if1 .left) in
     (omega arith, rw (add-one, add-one), rw (add-one, at .inv .2, holds))
 
--- src/packets.rt:53:1
 returns-2 : tie.Need-returns-2 Inv-loop μ-loop
 returns-2 c =
     let at = c .before .loop in

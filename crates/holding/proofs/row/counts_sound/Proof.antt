@@ -1,15 +1,13 @@
 -- `holding::row::counts_sound` meets its contract: each test that fails decides.
 -- Assumes nothing.
 use Prim.Native.Nat.{_*_}
-use borrow.Author.Tests.{eq-eqb, ne-eqb, lt-ltb, le-ltb, le-leb, lt-leb, not-true, not-false}
+use borrow.Author.Tests.{le-leb, lt-leb}
 use Rattle.input.specs.Limits.{most-bytes}
 use Rattle.holding.specs.Row.{counts-test}
 use native.Mathlib.Omega.{arith}
 use borrow.Author.Needs.{needs}
 use Rattle.holding.proofs.row.counts_sound.Statement.{statement}
 use Rattle.holding.proofs.row.counts_sound.Tie as tie
-use Rattle.holding.proofs.row.counts_sound.Reads as reads
-use Rattle.holding.proofs.row.counts_sound.Lts as lts
 
 cast-if1 : tie.Need-cast-if1
 cast-if1 c = search needs

@@ -1,15 +1,11 @@
 -- `holding::row::inner_sound` meets its contract: each test that fails decides.
 -- Assumes nothing.
-use borrow.Author.Tests.{eq-eqb, ne-eqb, lt-ltb, le-ltb, le-leb, lt-leb, not-true, not-false}
+use borrow.Author.Tests.{eq-eqb, ne-eqb}
 use Rattle.holding.specs.Row.{inner-test}
 use native.Mathlib.Omega.{arith}
 use borrow.Author.Needs.{needs}
 use Rattle.holding.proofs.row.inner_sound.Statement.{statement}
 use Rattle.holding.proofs.row.inner_sound.Tie as tie
-use Rattle.holding.proofs.row.inner_sound.Reads as reads
-use Rattle.holding.proofs.row.inner_sound.Lts as lts
-use Rattle.holding.proofs.row.same_head.Reads as same-head-reads
-use Rattle.words.proofs.long.Reads as long-reads
 
 returns : tie.Need-returns
 unfolding inner-test

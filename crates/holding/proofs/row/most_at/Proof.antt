@@ -1,13 +1,11 @@
 -- `holding::row::most_at` meets its contract: the largest charges of all packets that can leave fit.
 -- Assumes nothing.
-use borrow.Author.Tests.{eq-eqb, ne-eqb, lt-ltb, le-ltb, le-leb, lt-leb, not-true, not-false}
+use borrow.Author.Tests.{eq-eqb, ne-eqb}
 use Rattle.holding.specs.Row.{most-at}
 use native.Mathlib.Omega.{arith}
 use borrow.Author.Needs.{needs}
 use Rattle.holding.proofs.row.most_at.Statement.{statement}
 use Rattle.holding.proofs.row.most_at.Tie as tie
-use Rattle.holding.proofs.row.most_at.Reads as reads
-use Rattle.holding.proofs.row.most_at.Lts as lts
 
 cast-result : tie.Need-cast-result
 cast-result c = search needs

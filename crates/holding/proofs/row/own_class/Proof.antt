@@ -1,12 +1,10 @@
 -- `holding::row::own_class` meets its contract: by whether there is a head.
 -- Assumes nothing.
-use borrow.Author.Tests.{eq-eqb, ne-eqb, lt-ltb, le-ltb, le-leb, lt-leb, not-true, not-false}
+use borrow.Author.Tests.{eq-eqb, ne-eqb}
 use native.Mathlib.Omega.{arith}
 use borrow.Author.Needs.{needs}
 use Rattle.holding.proofs.row.own_class.Statement.{statement}
 use Rattle.holding.proofs.row.own_class.Tie as tie
-use Rattle.holding.proofs.row.own_class.Reads as reads
-use Rattle.holding.proofs.row.own_class.Lts as lts
 
 returns : tie.Need-returns
 returns c =

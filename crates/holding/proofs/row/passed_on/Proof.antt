@@ -1,14 +1,11 @@
 -- `holding::row::passed_on` meets its contract: by the mark, by the row, by its head.
 -- Assumes nothing.
-use borrow.Author.Tests.{eq-eqb, ne-eqb, lt-ltb, le-ltb, le-leb, lt-leb, not-true, not-false}
+use borrow.Author.Tests.{eq-eqb, ne-eqb, lt-ltb, le-ltb}
 use Rattle.holding.specs.Row.{passed-on}
 use native.Mathlib.Omega.{arith}
 use borrow.Author.Needs.{needs}
 use Rattle.holding.proofs.row.passed_on.Statement.{statement}
 use Rattle.holding.proofs.row.passed_on.Tie as tie
-use Rattle.holding.proofs.row.passed_on.Reads as reads
-use Rattle.holding.proofs.row.passed_on.Lts as lts
-use Rattle.holding.proofs.row.same_head.Reads as same-head-reads
 
 returns : tie.Need-returns
 returns c = search needs

@@ -1,13 +1,10 @@
 -- `holding::row::same_head` meets its contract: the first number that differs decides.
 -- Assumes nothing.
-use borrow.Author.Tests.{eq-eqb, ne-eqb, lt-ltb, le-ltb, le-leb, lt-leb, not-true, not-false}
+use borrow.Author.Tests.{eq-eqb, ne-eqb}
 use Rattle.holding.specs.Row.{same-head}
 use native.Mathlib.Omega.{arith}
-use borrow.Author.Needs.{needs}
 use Rattle.holding.proofs.row.same_head.Statement.{statement}
 use Rattle.holding.proofs.row.same_head.Tie as tie
-use Rattle.holding.proofs.row.same_head.Reads as reads
-use Rattle.holding.proofs.row.same_head.Lts as lts
 
 returns : tie.Need-returns
 unfolding same-head

@@ -1,15 +1,11 @@
 -- `holding::row::sender_sound` meets its contract: each test that fails decides.
 -- Assumes nothing.
-use borrow.Author.Tests.{eq-eqb, ne-eqb, lt-ltb, le-ltb, le-leb, lt-leb, not-true, not-false}
+use borrow.Author.Tests.{eq-eqb, ne-eqb, not-true, not-false}
 use Rattle.holding.specs.Row.{sender-test}
 use native.Mathlib.Omega.{arith}
 use borrow.Author.Needs.{needs}
 use Rattle.holding.proofs.row.sender_sound.Statement.{statement}
 use Rattle.holding.proofs.row.sender_sound.Tie as tie
-use Rattle.holding.proofs.row.sender_sound.Reads as reads
-use Rattle.holding.proofs.row.sender_sound.Lts as lts
-use Rattle.holding.proofs.row.own_class.Reads as own-class-reads
-use Rattle.holding.proofs.row.same_head.Reads as same-head-reads
 
 returns : tie.Need-returns
 unfolding sender-test

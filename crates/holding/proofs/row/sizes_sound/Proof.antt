@@ -1,15 +1,11 @@
 -- `holding::row::sizes_sound` meets its contract: each test that fails decides.
 -- Assumes nothing.
-use borrow.Author.Tests.{eq-eqb, ne-eqb, lt-ltb, le-ltb, le-leb, lt-leb, not-true, not-false}
+use borrow.Author.Tests.{eq-eqb, ne-eqb, le-leb, lt-leb}
 use Rattle.holding.specs.Row.{sizes-test}
 use native.Mathlib.Omega.{arith}
 use borrow.Author.Needs.{needs}
 use Rattle.holding.proofs.row.sizes_sound.Statement.{statement}
 use Rattle.holding.proofs.row.sizes_sound.Tie as tie
-use Rattle.holding.proofs.row.sizes_sound.Reads as reads
-use Rattle.holding.proofs.row.sizes_sound.Lts as lts
-use Rattle.holding.proofs.row.most_at.Reads as most-at-reads
-use Rattle.holding.proofs.row.tag_at.Reads as tag-at-reads
 
 most-at-requires : tie.Need-most-at-requires
 most-at-requires c κs = search needs

@@ -1,13 +1,10 @@
 -- `holding::row::tag_at` meets its contract: by the head, and by whether the parent has taken it.
 -- Assumes nothing.
-use borrow.Author.Tests.{eq-eqb, ne-eqb, lt-ltb, le-ltb, le-leb, lt-leb, not-true, not-false}
+use borrow.Author.Tests.{eq-eqb, ne-eqb}
 use Rattle.holding.specs.Row.{tag-at}
 use native.Mathlib.Omega.{arith}
-use borrow.Author.Needs.{needs}
 use Rattle.holding.proofs.row.tag_at.Statement.{statement}
 use Rattle.holding.proofs.row.tag_at.Tie as tie
-use Rattle.holding.proofs.row.tag_at.Reads as reads
-use Rattle.holding.proofs.row.tag_at.Lts as lts
 
 returns : tie.Need-returns
 unfolding tag-at

@@ -3,7 +3,7 @@
 use Prim.Native.Nat.{_+_}
 use mathlib.Core.Bool.{not}
 use lib.Dec.{eqb}
-use borrow.Author.Tests.{eq-eqb, ne-eqb, lt-ltb, le-ltb, le-leb, lt-leb, not-true, not-false}
+use borrow.Author.Tests.{eq-eqb, ne-eqb, le-leb, lt-leb}
 use Rattle.input.specs.Shares.{charge}
 use Rattle.holding.specs.Row.{tags-test}
 use Rattle.holding.proofs.Tests.{neither, between}
@@ -11,9 +11,6 @@ use native.Mathlib.Omega.{arith}
 use borrow.Author.Needs.{needs}
 use Rattle.holding.proofs.row.tags_sound.Statement.{statement}
 use Rattle.holding.proofs.row.tags_sound.Tie as tie
-use Rattle.holding.proofs.row.tags_sound.Reads as reads
-use Rattle.holding.proofs.row.tags_sound.Lts as lts
-use Rattle.shares.proofs.charge.Reads as charge-reads
 
 returns : tie.Need-returns
 unfolding tags-test

@@ -11,10 +11,6 @@ use native.Mathlib.Omega.{arith}
 use borrow.Author.Needs.{needs}
 use Rattle.holding.proofs.rows.counts_sound.Statement.{statement}
 use Rattle.holding.proofs.rows.counts_sound.Tie as tie
-use Rattle.holding.proofs.rows.counts_sound.Reads as reads
-use Rattle.holding.proofs.rows.counts_sound.Lts as lts
-use Rattle.holding.proofs.row.counts_sound.Reads as counts-sound-reads
-use Rattle.holding.proofs.rows.inside.Reads as inside-reads
 
 abbrev Inv-loop : tie.InvT-loop
 Inv-loop n left parents bytes since parent-since r₀ r = (r ≤ n) × (all r (counts-tested left parents bytes since parent-since) ≡ true)

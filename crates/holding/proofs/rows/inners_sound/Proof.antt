@@ -11,9 +11,6 @@ use native.Mathlib.Omega.{arith}
 use borrow.Author.Needs.{needs}
 use Rattle.holding.proofs.rows.inners_sound.Statement.{statement}
 use Rattle.holding.proofs.rows.inners_sound.Tie as tie
-use Rattle.holding.proofs.rows.inners_sound.Reads as reads
-use Rattle.holding.proofs.rows.inners_sound.Lts as lts
-use Rattle.holding.proofs.row.inner_sound.Reads as inner-sound-reads
 
 abbrev Inv-loop : tie.InvT-loop
 Inv-loop n senders held sums marks heads head-lengths head-classes r₀ r = (r ≤ n) × (all r (inners-tested senders held sums marks heads head-lengths head-classes) ≡ true)

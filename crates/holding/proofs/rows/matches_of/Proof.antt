@@ -11,10 +11,6 @@ use native.Mathlib.Omega.{arith}
 use borrow.Author.Needs.{needs}
 use Rattle.holding.proofs.rows.matches_of.Statement.{statement}
 use Rattle.holding.proofs.rows.matches_of.Tie as tie
-use Rattle.holding.proofs.rows.matches_of.Reads as reads
-use Rattle.holding.proofs.rows.matches_of.Lts as lts
-use Rattle.holding.proofs.row.passed_on.Reads as passed-on-reads
-use Rattle.holding.proofs.rows.inside.Reads as inside-reads
 
 abbrev Inv-loop : tie.InvT-loop
 Inv-loop n parents heads head-lengths head-classes marks₀ t₀ marks t = (t ≤ n) × (length marks ≡ most-rows) × Matches parents heads head-lengths head-classes t marks
@@ -98,11 +94,11 @@ loop-again c =
       omega (arith, c .before .before .before .before .before .before .before .before .before .loop-test .taken),
       length-set (at .marks) (row .result) (c .passed-on .result) ∙ at .inv .1,
       matches-more (s .parents .now) (s .heads .now) (s .head-lengths .now) (s .head-classes .now) (at .t) (at .marks) (row .result) (c .passed-on .result)
-      (at .inv .1)
-      (at .inv .2)
-      (row .ensures .1)
-      (row .ensures .0)
-      (c .passed-on .ensures),
+          (at .inv .1)
+          (at .inv .2)
+          (row .ensures .1)
+          (row .ensures .0)
+          (c .passed-on .ensures),
     )
 
 returns : tie.Need-returns Inv-loop μ-loop

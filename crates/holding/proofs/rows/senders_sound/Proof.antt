@@ -11,9 +11,6 @@ use native.Mathlib.Omega.{arith}
 use borrow.Author.Needs.{needs}
 use Rattle.holding.proofs.rows.senders_sound.Statement.{statement}
 use Rattle.holding.proofs.rows.senders_sound.Tie as tie
-use Rattle.holding.proofs.rows.senders_sound.Reads as reads
-use Rattle.holding.proofs.rows.senders_sound.Lts as lts
-use Rattle.holding.proofs.row.sender_sound.Reads as sender-sound-reads
 
 abbrev Inv-loop : tie.InvT-loop
 Inv-loop n senders held counts virtuals heads head-lengths head-classes firsts sizes r₀ r = (r ≤ n) × (all r (senders-tested senders held counts virtuals heads head-lengths head-classes firsts sizes) ≡ true)

@@ -11,10 +11,6 @@ use native.Mathlib.Omega.{arith}
 use borrow.Author.Needs.{needs}
 use Rattle.holding.proofs.rows.sizes_sound.Statement.{statement}
 use Rattle.holding.proofs.rows.sizes_sound.Tie as tie
-use Rattle.holding.proofs.rows.sizes_sound.Reads as reads
-use Rattle.holding.proofs.rows.sizes_sound.Lts as lts
-use Rattle.holding.proofs.row.sizes_sound.Reads as sizes-sound-reads
-use Rattle.holding.proofs.rows.inside.Reads as inside-reads
 
 abbrev Inv-loop : tie.InvT-loop
 Inv-loop n left parents starts finishes virtuals heads head-classes r₀ r = (r ≤ n) × (all r (sizes-tested left parents starts finishes virtuals heads head-classes) ≡ true)

@@ -11,9 +11,6 @@ use native.Mathlib.Omega.{arith}
 use borrow.Author.Needs.{needs}
 use Rattle.holding.proofs.rows.tags_sound.Statement.{statement}
 use Rattle.holding.proofs.rows.tags_sound.Tie as tie
-use Rattle.holding.proofs.rows.tags_sound.Reads as reads
-use Rattle.holding.proofs.rows.tags_sound.Lts as lts
-use Rattle.holding.proofs.row.tags_sound.Reads as tags-sound-reads
 
 abbrev Inv-loop : tie.InvT-loop
 Inv-loop n shares starts finishes heads head-lengths r₀ r = (r ≤ n) × (all r (tags-tested shares starts finishes heads head-lengths) ≡ true)
