@@ -5,3 +5,4 @@ pub mod Queues
 pub mod Tests
 pub mod Passing
 pub mod Sound
+pub mod Unique
