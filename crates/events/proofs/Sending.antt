@@ -1,7 +1,7 @@
 -- The order: what a step writes is what the rules send, and after n events it has at most n words.
 -- Assumes nothing.
 use Prim.Native.Nat.{ℕ, zero, suc, pred, _≤_, _<_}
-use mathlib.Core.Path.{_≡_, refl, sym, _∙_}
+use mathlib.Core.Path.{_≡_, sym, _∙_}
 use mathlib.Core.Bool.{Bool, true, false, cond, not, _&&_}
 use mathlib.Core.List.{List, [], _∷_, _++_}
 use native.Mathlib.Omega.{arith}
@@ -17,22 +17,6 @@ use Rattle.rules.specs.Steps.{sent, arrival, departure, step, after}
 use Rattle.rules.specs.Outcome.{over}
 use Rattle.rules.proofs.Over.{over-more}
 use Rattle.queues.specs.Words.{sent-word}
-
--- ── words ──
-
-not-not : (b : Bool) → not (not b) ≡ b
-not-not true = refl
-not-not false = refl
-
--- an arrival: the line was idle or not
-pub sent-arrived : (a b : Rows) → sent a b ≡ sent-word (eqb (head a 0) 0) (head b 0)
-unfolding sent sent-word has-head
-sent-arrived a b = rw (not-not (eqb (head a 0) 0))
-
--- a finish: the line is idle then
-pub sent-finished : (a b : Rows) → head a 0 ≡ 0 → sent a b ≡ sent-word true (head b 0)
-unfolding sent sent-word has-head
-sent-finished a b none = rw none
 
 sent-most : (a b : Rows) → length (sent a b) ≤ 1
 unfolding sent

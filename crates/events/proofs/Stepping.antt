@@ -55,7 +55,8 @@ use Rattle.events.specs.Links.{first-word, Chain}
 use Rattle.events.specs.State.{Coming, Fronted}
 use Rattle.events.proofs.Fits.{ready-now}
 use Rattle.events.proofs.Links.{followed-beyond, last-before, first-before, chain-first, chain-length, joined, first-left}
-use Rattle.events.proofs.Sending.{sent-arrived, sent-finished, order-most, order-more, sent-word-most}
+use Rattle.queues.proofs.Words.{sent-arrived, sent-finished}
+use Rattle.events.proofs.Sending.{order-most, order-more, sent-word-most}
 
 module _
     {way : Way} {tree : Tree} {events : Events} {i row sent-before : ℕ} {a : Rows} {f : Forest} {bytes held since parent-since lasts links order : List ℕ}

@@ -36,6 +36,7 @@ pub record Arrives (tree : Tree) (place k length : ℕ) (box : Box) : Type 0 whe
 pub record Finishes (tree : Tree) (place next length : ℕ) (box : Box) : Type 0 where
   pub able : Able tree place box
   pub busy : head (box .rows) 0 ≢ 0
+  pub few-bytes : length ≤ most-bytes
   pub next-is : take 1 (left box) ≡ next-of next length
 
 -- the event is over: the arrays are those of the box after it, whose order went on by so many packets, the first of them this one

@@ -3,11 +3,14 @@
 use Prim.Native.Nat.{ℕ, zero, suc, pred, _-_}
 use mathlib.Core.Path.{_≡_, refl, ap}
 use mathlib.Core.Logic.{_≢_}
-use mathlib.Core.Bool.{Bool, true, false}
+use mathlib.Core.Bool.{Bool, true, false, not}
 use mathlib.Core.List.{List, [], _∷_, _++_}
 use native.Mathlib.Omega.{arith}
+use lib.Dec.{eqb}
 use lib.ListN.{getD, set, replicate}
 use borrow.Author.Tests.{eq-eqb, ne-eqb}
+use Rattle.rules.specs.Box.{Rows, head, has-head}
+use Rattle.rules.specs.Steps.{sent}
 use Rattle.queues.specs.Words.{followed, shortened, length-of, sent-word}
 
 pub followed-some : (links : List ℕ) (n word : ℕ) → n ≢ 0 → followed links n word ≡ set links (n - 1) word
@@ -40,6 +43,20 @@ sent-busy idle head busy = rw busy
 pub sent-one : (idle : Bool) (head : ℕ) → idle ≡ true → head ≢ 0 → sent-word idle head ≡ (head - 1) ∷ []
 unfolding sent-word
 sent-one idle head idles some = let same : pred head ≡ head - 1 = omega arith in rw (idles, ne-eqb head 0 some, same)
+
+not-not : (b : Bool) → not (not b) ≡ b
+not-not true = refl
+not-not false = refl
+
+-- what an event puts on the line: at an arrival the line was idle or not
+pub sent-arrived : (a b : Rows) → sent a b ≡ sent-word (eqb (head a 0) 0) (head b 0)
+unfolding sent sent-word has-head
+sent-arrived a b = rw (not-not (eqb (head a 0) 0))
+
+-- at a finish it is idle
+pub sent-finished : (a b : Rows) → head a 0 ≡ 0 → sent a b ≡ sent-word true (head b 0)
+unfolding sent sent-word has-head
+sent-finished a b none = rw none
 
 -- a 0 more
 pub replicate-more : (n : ℕ) → _≡_ {A = List ℕ} (replicate (suc n) 0) (replicate n 0 ++ 0 ∷ [])
