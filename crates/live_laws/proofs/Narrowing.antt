@@ -144,7 +144,6 @@ module _ (live : Live) (holds : Holds live) where
   -- ── tags ──
 
   pub level-fits : (p : ℕ) → p < tree .rows → level-most most-bytes (gone live) a p ≤ scale * most-bytes * most-accepted
-  unfolding level-most
   level-fits p inside = go (ℕ-discrete (head a p) 0)
     where
       go : Dec (head a p ≡ 0) → scale * most-bytes * (gone live + cond (has-head a p) 1 0) ≤ scale * most-bytes * most-accepted

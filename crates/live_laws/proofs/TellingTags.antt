@@ -75,7 +75,7 @@ module _ (tree : Tree) (a : Rows) where
 
 -- the most of a level, as the test and as the laws have it
 same-most : (left : ℕ) (a : Rows) (p : ℕ) → most-at left a p ≡ level-most most-bytes left a p
-unfolding most-at level-most
+unfolding most-at
 same-most left a p = refl
 
 -- whether the parent has taken the row's head
