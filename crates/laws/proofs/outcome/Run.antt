@@ -56,7 +56,7 @@ module _ (lent : Lent) (left : Outcome) (ran : Ran lent left) (done : left .answ
   ordered : Ordered tree events all (sent left)
   ordered = record { accepted = ok; order-is = order-is lent left ran done }
 
-  shows : Shown tree events all (sent left) (left .report) (left .lags)
+  pub shows : Shown tree events all (sent left) (left .report) (left .lags)
   shows = record { ordered = ordered; word-is = word-is lent left ran done; lag-is = lag-is lent left ran done }
 
   -- ── identifiers ──
