@@ -1,7 +1,7 @@
 -- The theorems on a live box over any number of calls from a fresh state: over the events that it accepted, the others dropped.
 -- Assumes nothing.
 use Prim.Native.Nat.{ℕ, zero, suc, _+_, _*_, _≤_, _<_}
-use mathlib.Core.Path.{_≡_, sym, ap, subst₂, _∙_}
+use mathlib.Core.Path.{_≡_, refl, sym, ap, subst₂, _∙_}
 use mathlib.Core.Logic.{_≢_, _⊎_}
 use mathlib.Core.Bool.{true}
 use mathlib.Core.List.{List, append-nil}
@@ -34,7 +34,7 @@ use Rattle.live_rules.specs.Layout.{state-words}
 use Rattle.live_rules.specs.State as state
 use Rattle.live_rules.specs.State.{box-of, live-in}
 use Rattle.live_rules.specs.Soundness.{sound}
-use Rattle.live_rules.specs.Outcomes.{Left, Told, Tells}
+use Rattle.live_rules.specs.Outcomes.{Left, fresh-outcome, event-outcome, Told, Tells}
 use Rattle.live_laws.specs.Unordered.{unordered}
 use Rattle.live_laws.specs.Calls.{accepted-of, sent-of, Calls}
 use Rattle.live_laws.proofs.Telling.{holds-sound}
@@ -42,6 +42,30 @@ use Rattle.live_laws.proofs.Orders.{unordered-report, unordered-lag}
 use Rattle.live_laws.proofs.Calls.{fresh-parts, refused-unchanged}
 use Rattle.live_laws.proofs.Reports.{word-told, lag-told}
 use Rattle.live_laws.proofs.Agreeing.{Agrees, fresh-agrees, taken-agrees}
+
+-- ── there are such calls ──
+
+-- the words after the first n events
+unfoldable pub words-after : Table → List ℕ → Events → ℕ → List ℕ
+words-after table lent events zero = fresh-outcome table lent .words
+words-after table lent events (suc n) =
+    event-outcome (words-after table lent events n) (class-word events n) (length-word events n) .words
+
+-- of any events on any state that is made
+pub calls-of :
+    (table : Table) (lent : List ℕ) (events : Events) (n : ℕ) → fresh-outcome table lent .answer .number ≡ 0 → Calls table lent events n
+unfolding words-after
+calls-of table lent events n done =
+    record {
+      made-answer = fresh-outcome table lent .answer;
+      words = words-after table lent events;
+      answers = λ i. event-outcome (words-after table lent events i) (class-word events i) (length-word events i) .answer;
+      made = refl;
+      done = done;
+      each = λ i before. refl;
+    }
+
+-- ── the theorems ──
 
 module _ {table : Table} {lent : List ℕ} {events : Events} {n : ℕ} (calls : Calls table lent events n) where
   abbrev tree : Tree
@@ -104,7 +128,7 @@ module _ {table : Table} {lent : List ℕ} {events : Events} {n : ℕ} (calls : 
   -- ── the state, and what it was ──
 
   -- the events that were accepted are a list that the run's rules accept
-  pub kept-accepted : Accepted (tree-of table) (accepted-of events (calls .answers) n) (count (accepted-of events (calls .answers) n))
+  pub kept-accepted : Accepted tree kept all
   kept-accepted = last .ordered .accepted
 
   -- the packets on the line are the run's order
@@ -272,7 +296,7 @@ module _ {table : Table} {lent : List ℕ} {events : Events} {n : ℕ} (calls : 
         (run.shows run-lent left ran run-done)
 
     pub same-order : sent left ≡ order
-    same-order = run-shows .ordered .order-is ∙ sym order-is
+    same-order = shown.same-order (run-shows .ordered) (last .ordered)
 
     -- and of any report of the state
     module _

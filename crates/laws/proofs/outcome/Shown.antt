@@ -49,24 +49,26 @@ pub record Shown (tree : Tree) (events : Events) (all : ℕ) (order report : Lis
 
 -- ── two that show the same box ──
 
-module _ {tree : Tree} {events : Events} {all : ℕ} {order other-order report other-report : List ℕ} {lags other-lags : List ℤ}
-    (one : Shown tree events all order report lags) (other : Shown tree events all other-order other-report other-lags) where
-  pub same-order : order ≡ other-order
-  same-order = one .ordered .order-is ∙ sym (other .ordered .order-is)
+pub same-order :
+    {tree : Tree} {events : Events} {all : ℕ} {order other : List ℕ} → Ordered tree events all order → Ordered tree events all other → order ≡ other
+same-order one two = one .order-is ∙ sym (two .order-is)
 
+module _
+    {tree : Tree} {events : Events} {all : ℕ} {order other report other-report : List ℕ} {lags other-lags : List ℤ}
+    (one : Shown tree events all order report lags) (two : Shown tree events all other other-report other-lags) where
   pub same-word :
       (r i : ℕ) → r < tree .rows → i < report-words → getD report (report-words * r + i) 0 ≡ getD other-report (report-words * r + i) 0
-  same-word r i inside word = one .word-is r i inside word ∙ sym (other .word-is r i inside word)
+  same-word r i inside word = one .word-is r i inside word ∙ sym (two .word-is r i inside word)
 
   pub same-lag : (r : ℕ) → r < tree .rows → getD lags r (pos 0) ≡ getD other-lags r (pos 0)
-  same-lag r inside = one .lag-is r inside ∙ sym (other .lag-is r inside)
+  same-lag r inside = one .lag-is r inside ∙ sym (two .lag-is r inside)
+
+-- ── the order ──
 
 -- one for a busy line
 line-count : (b : Bool) (n size : ℕ) → size ≡ n + cond (not b) 1 0 → size ≡ n + cond b 0 1
 line-count true n size is = is
 line-count false n size is = is
-
--- ── the order ──
 
 module _ {tree : Tree} {events : Events} {all : ℕ} {order : List ℕ} (ordered : Ordered tree events all order) where
   ok : Accepted tree events all
