@@ -12,7 +12,7 @@ use Rattle.live_rules.specs.Outcomes
 use Rattle.live_rules.specs.Worked
 
 -- the live box with all that it is made of: a proof that names this on its `unfolding` line can compute it
-unfoldable computing : List ℕ → ℕ → ℕ → Outcomes.Left
+unfoldable pub computing : List ℕ → ℕ → ℕ → Outcomes.Left
 unfolding Computing.computing Layout.words-at Layout.rows-at
     State.queue State.queues State.box-of State.gone State.events State.fresh-live State.packets-at State.tree-in State.rows-in State.live-with
     State.live-in State.rows-stored State.tree-stored State.tags-stored State.heads-stored State.counts-stored State.packets-stored State.stored
@@ -31,5 +31,5 @@ unfolding computing Worked.of-fresh Worked.of-event Worked.called Worked.sevens 
 worked = refl
 
 pub full-up : Worked.FullUp
-unfolding computing Worked.held-from Worked.both Worked.full
+unfolding computing Worked.held-from Worked.both Worked.holding
 full-up = (refl, refl, refl)

@@ -1,7 +1,7 @@
 -- Worked days of a live box: what is lent, and calls one after the other, each with what it must answer and leave.
 use Prim.Native.Nat.{ℕ, zero, suc}
 use mathlib.Core.Path.{_≡_}
-use mathlib.Core.Bool.{true}
+use mathlib.Core.Bool.{true, false}
 use mathlib.Core.List.{List, [], _∷_, map}
 use lib.ListN.{length, take, drop, set, replicate}
 use lib.Seq.{sets}
@@ -128,22 +128,33 @@ words-in-use =
           ∷ State Layout.classes-at (2 ∷ 1 ∷ 7 ∷ [])
           ∷ State Layout.lengths-at (100 ∷ 50 ∷ 7 ∷ [])
           ∷ State Layout.names-at (0 ∷ 1 ∷ 7 ∷ [])
-          -- the gap is closed, and the last packet's old words are out of use
+          -- the gap is closed; what stood last is out of use, and stays
           ∷ Event finish 0 0 0 1 1
           ∷ State Layout.bytes-at (100 ∷ 0 ∷ 100 ∷ 7 ∷ [])
-          ∷ State Layout.since-at (0 ∷ 0 ∷ 0 ∷ 7 ∷ [])
-          ∷ State Layout.parent-since-at (0 ∷ 0 ∷ 0 ∷ 7 ∷ [])
           ∷ State Layout.held-at (1 ∷ 1 ∷ 0 ∷ 7 ∷ [])
           ∷ State Layout.classes-at (1 ∷ 1 ∷ 7 ∷ [])
           ∷ State Layout.names-at (1 ∷ 1 ∷ 7 ∷ [])
+          -- class 20 has a backlog again, and counts from here
+          ∷ Event (packet 10 50) 0 0 0 0 0
+          ∷ Event (packet 20 10) 0 0 0 0 0
+          ∷ State Layout.since-at (0 ∷ 0 ∷ 100 ∷ 7 ∷ [])
+          ∷ State Layout.parent-since-at (0 ∷ 0 ∷ 100 ∷ 7 ∷ [])
+          ∷ State Layout.names-at (1 ∷ 3 ∷ 4 ∷ 7 ∷ [])
+          -- its packet passes one that came before it
+          ∷ Event finish 0 0 0 1 4
+          ∷ State Layout.names-at (3 ∷ 4 ∷ 4 ∷ 7 ∷ [])
+          ∷ Event finish 0 0 0 1 3
+          ∷ State Layout.names-at (3 ∷ 4 ∷ 4 ∷ 7 ∷ [])
+          ∷ State Layout.held-at (1 ∷ 1 ∷ 0 ∷ 7 ∷ [])
+          ∷ Event finish 0 0 0 0 0
           ∷ [];
     }
 
--- a word too few: nothing is made, taken or told
+-- a word too few: nothing is made, taken or told, and whether the state is sound is not asked
 unfoldable pub too-short : Day
 too-short =
     record {
-      lent = take 6911 made;
+      lent = take 6911 sevens;
       calls = Fresh halves 3 0 0 ∷ Event (packet 10 100) 3 0 0 0 0 ∷ Report 3 (7 ∷ []) (pos 7 ∷ []) ∷ [];
     }
 
@@ -191,12 +202,13 @@ unfoldable pub held-from : ℕ → ℕ → List Held
 held-from name zero = []
 held-from name (suc n) = record { class = 1; length = 100; name = name } ∷ held-from (suc name) n
 
--- the root and class 10 have the first of them as their head
+-- the root and class 10 have the same
 unfoldable pub both : ℕ → List ℕ
 both n = set (set zeros 0 n) 1 n
 
-unfoldable pub full : Live
-full =
+-- so many packets arrived for class 10, and none has left; the first is on the line
+unfoldable pub holding : ℕ → Live
+holding n =
     record {
       tree = tree-of (lend halves [] .table);
       rows = record {
@@ -208,14 +220,16 @@ full =
         head-classes = both 1;
       };
       bytes = zeros;
-      held = both most-held;
+      held = both n;
       since = zeros;
       parent-since = zeros;
-      packets = held-from 0 most-held;
-      accepted = most-held;
+      packets = held-from 0 n;
+      accepted = n;
     }
 
--- whether it is sound, how it refuses a packet, and how it does once the line has finished one
+-- with as many as can be it is sound, and with one more it is not; it refuses a packet, and does not once the line has finished one
 abbrev pub FullUp : Type 0
 FullUp =
-    (sound full ≡ true) × (event-refused full 100 (Arrival 20 100) .number ≡ 22) × (event-refused (took full Finish) 100 (Arrival 20 100) .number ≡ 0)
+    (map sound (holding most-held ∷ holding (suc most-held) ∷ []) ≡ true ∷ false ∷ [])
+    × (event-refused (holding most-held) 100 (Arrival 20 100) .number ≡ 22)
+    × (event-refused (took (holding most-held) Finish) 100 (Arrival 20 100) .number ≡ 0)
