@@ -57,7 +57,7 @@ is-refused number done refused some = rw (ne-eqb number 0 some)
 -- ── a fresh state ──
 
 module _ (table : Table) (words : List ℕ) (left : Left) (made : Made table words left) where
-  fresh-number : left .answer .number ≡ fresh-refused table words .number
+  pub fresh-number : left .answer .number ≡ fresh-refused table words .number
   unfolding fresh-outcome refusing doing
   fresh-number =
       ap (λ (l : Left). l .answer .number) made

@@ -12,8 +12,10 @@ use borrow.Author.Tests.{ltb-true, ltb-false, lt-ltb, le-ltb, leb-true, leb-fals
 use Rattle.input.specs.declared.Event.the-variants.{Arrival, Finish}
 use Rattle.input.specs.declared.Refusal.{Refusal}
 use Rattle.input.specs.Limits.{most-bytes}
+use Rattle.input.specs.Classes.{Table}
 use Rattle.input.specs.Events.{decode}
-use Rattle.input.specs.Refusals.{nothing, given, or-else, first, meeting-refused}
+use Rattle.input.specs.Refusals.{nothing, given, or-else, first, rows-refused, table-refused, meeting-refused}
+use Rattle.input.proofs.Numbers.{table-has}
 use Rattle.rules.specs.Box.{has-head}
 use Rattle.rules.specs.Refused.{idle}
 use Rattle.laws.proofs.level.Heads.{has-true, some-has}
@@ -24,11 +26,11 @@ use Rattle.live_rules.specs.State as state
 use Rattle.live_rules.specs.State.{Live, box-of, live-in}
 use Rattle.live_rules.specs.Soundness.{sound}
 use Rattle.live_rules.specs.Taking.{full-refused, event-refused}
-use Rattle.live_rules.specs.Outcomes.{state-refused, Left, Took}
+use Rattle.live_rules.specs.Outcomes.{state-refused, fresh-refused, Left, Made, Took}
 use Rattle.live_laws.specs.Holds.{Counted, Holds}
 use Rattle.live_laws.proofs.Telling.{sound-counted}
 use Rattle.live_laws.proofs.Refusing.{first-here, first-next, first-last, or-next, call-has, finish-has, event-has, state-short, state-unsound, state-fine}
-use Rattle.live_laws.proofs.Calls.{number-is}
+use Rattle.live_laws.proofs.Calls.{fresh-number, number-is}
 
 -- ── 3 and 20, which come first ──
 
@@ -74,6 +76,30 @@ module _ (short : Bool) (words : List ℕ) (rest : Refusal) (number : ℕ) (is :
         go true shorter s sounds = let three = short-three shorter in absurd (omega arith)
         go false long false sounds = (refl, refl)
         go false long true sounds = absurd (later .1 (sym (sound-rest long sounds) ∙ gets))
+
+-- ── of a fresh state ──
+
+-- where the rows are not refused, 3 is given for a short state alone
+pub fresh-three-exactly :
+    (table : Table) (words : List ℕ) (left : Left) → Made table words left → rows-refused table .number ≡ 0
+    → (left .answer .number ≡ 3) ↔ (length words < state-words)
+unfolding fresh-refused first or-else given nothing
+fresh-three-exactly table words left made rows-ok = go (ltb (length words) state-words) refl rest-is
+  where
+    rest-is : left .answer .number ≡ first (given (ltb (length words) state-words) 3 0 ∷ table-refused table ∷ []) .number
+    rest-is =
+        fresh-number table words left made
+        ∙ ap (λ (r : Refusal). r .number)
+        (first-next (rows-refused table) (given (ltb (length words) state-words) 3 0 ∷ table-refused table ∷ []) rows-ok)
+
+    go :
+        (b : Bool) → ltb (length words) state-words ≡ b → left .answer .number ≡ first (given b 3 0 ∷ table-refused table ∷ []) .number
+        → (left .answer .number ≡ 3) ↔ (length words < state-words)
+    go true shorter is = (λ gets. ltb-true (length words) state-words shorter, λ below. is)
+    go false long is =
+        let other = table-has (λ number. number ≢ 3) (λ e. omega arith) (λ number low high e. omega arith) table in
+        let enough = ltb-false (length words) state-words long in
+        (λ gets. absurd (other (sym (is ∙ first-last (table-refused table)) ∙ gets)), λ below. absurd (omega arith))
 
 -- ── a busy line ──
 
