@@ -5,6 +5,12 @@ ghost use Prim.Native.Nat.{_≤_};
 ghost use lib.ListN as lists;
 ghost use Rattle.live_rules.specs.Layout.{state-words};
 ghost use Rattle.state.specs.Opened.{Opens};
+
+mod counts;
+mod lists;
+mod reading;
+mod rows;
+
 use input::MOST_ROWS;
 use input::RowLongs;
 use input::RowMarks;
@@ -64,9 +70,17 @@ fn unsound() -> State
     }
 }
 
+// The state in the words.
 pub fn open(words: &[u64]) -> State
     requires { ⌜ state-words ≤ lists.length (now words) ⌝ }
     ensures { λ r. ⌜ Opens (now (words .entry)) r ⌝ }
 {
-    unsound()
+    let state = reading::read(words);
+    if !state.sound {
+        return unsound();
+    }
+    if !rows::rows_sound(words, state) {
+        return unsound();
+    }
+    state
 }
