@@ -2,3 +2,4 @@
 pub mod Parts
 pub mod Unfit
 pub mod Opening
+pub mod Loading

@@ -16,45 +16,35 @@ pub fn rows_sound(words: &[u64], state: State) -> bool
     let n = state.rows;
     let m = state.packets;
     let left = state.accepted - m as u64;
-    let parents = state.parents;
-    let shares = state.shares;
-    let senders = state.senders;
-    let starts = state.starts;
-    let finishes = state.finishes;
-    let virtuals = state.virtuals;
-    let heads = state.heads;
-    let head_lengths = state.head_lengths;
-    let head_classes = state.head_classes;
-    let bytes = state.bytes;
-    let held = state.held;
-    let since = state.since;
-    let parent_since = state.parent_since;
     let firsts = holding::firsts_of(words, m);
-    let counts = firsts.counts;
-    let first_words = firsts.words;
-    let sizes = firsts.sizes;
-    let sums = soundness::children_sums(n, &parents, &held);
-    let marks = holding::matches_of(n, &parents, &heads, &head_lengths, &head_classes);
+    let sums = soundness::children_sums(n, &state.parents, &state.held);
+    let marks = holding::matches_of(
+        n,
+        &state.parents,
+        &state.heads,
+        &state.head_lengths,
+        &state.head_classes,
+    );
     holding::rows_sound(
         n,
         left,
-        &parents,
-        &shares,
-        &senders,
-        &starts,
-        &finishes,
-        &virtuals,
-        &heads,
-        &head_lengths,
-        &head_classes,
-        &bytes,
-        &held,
-        &since,
-        &parent_since,
+        &state.parents,
+        &state.shares,
+        &state.senders,
+        &state.starts,
+        &state.finishes,
+        &state.virtuals,
+        &state.heads,
+        &state.head_lengths,
+        &state.head_classes,
+        &state.bytes,
+        &state.held,
+        &state.since,
+        &state.parent_since,
         &sums,
         &marks,
-        &counts,
-        &first_words,
-        &sizes,
+        &firsts.counts,
+        &firsts.words,
+        &firsts.sizes,
     )
 }

@@ -15,11 +15,10 @@ unfit-requires : tie.Need-unfit-requires
 unfit-requires c κs = search needs
 
 returns : tie.Need-returns
-returns c =
-    (
-      c .unfit .ensures ∙ rw (sym (c .before .before .before .load-words .ensures .0) ∙ not-true (c .before .before .before .load-words .result .fits) (c .before .if1 .taken)),
-      λ fit. absurd (false≢true (sym (c .unfit .ensures) ∙ fit)),
-    )
+returns c = (
+  c .unfit .ensures ∙ rw (sym (c .before .before .before .load-words .ensures .0) ∙ not-true (c .before .before .before .load-words .result .fits) (c .before .if1 .taken)),
+  λ fit. absurd (false≢true (sym (c .unfit .ensures) ∙ fit)),
+)
 
 load-words-requires-2 : tie.Need-load-words-requires-2
 load-words-requires-2 c κs = search needs
@@ -28,12 +27,13 @@ unfit-requires-2 : tie.Need-unfit-requires-2
 unfit-requires-2 c κs = search needs
 
 returns-2 : tie.Need-returns-2
-returns-2 c =
-    (
-      c .unfit2 .ensures ∙ rw (sym (c .before .before .before .before .before .before .load-words .ensures .0) ∙ not-false (c .before .before .before .before .before .before .load-words .result .fits) (c .before .before .before .before .if1 .left),
-      sym (c .before .before .before .load-words2 .ensures .0) ∙ not-true (c .before .before .before .load-words2 .result .fits) (c .before .if2 .taken)),
-      λ fit. absurd (false≢true (sym (c .unfit2 .ensures) ∙ fit)),
-    )
+returns-2 c = (
+  c .unfit2 .ensures ∙ rw (
+    sym (c .before .before .before .before .before .before .load-words .ensures .0) ∙ not-false (c .before .before .before .before .before .before .load-words .result .fits) (c .before .before .before .before .if1 .left),
+    sym (c .before .before .before .load-words2 .ensures .0) ∙ not-true (c .before .before .before .load-words2 .result .fits) (c .before .if2 .taken),
+  ),
+  λ fit. absurd (false≢true (sym (c .unfit2 .ensures) ∙ fit)),
+)
 
 load-words-requires-3 : tie.Need-load-words-requires-3
 load-words-requires-3 c κs = search needs
@@ -42,13 +42,14 @@ unfit-requires-3 : tie.Need-unfit-requires-3
 unfit-requires-3 c κs = search needs
 
 returns-3 : tie.Need-returns-3
-returns-3 c =
-    (
-      c .unfit3 .ensures ∙ rw (sym (c .before .before .before .before .before .before .before .before .before .load-words .ensures .0) ∙ not-false (c .before .before .before .before .before .before .before .before .before .load-words .result .fits) (c .before .before .before .before .before .before .before .if1 .left),
-      sym (c .before .before .before .before .before .before .load-words2 .ensures .0) ∙ not-false (c .before .before .before .before .before .before .load-words2 .result .fits) (c .before .before .before .before .if2 .left),
-      sym (c .before .before .before .load-words3 .ensures .0) ∙ not-true (c .before .before .before .load-words3 .result .fits) (c .before .if3 .taken)),
-      λ fit. absurd (false≢true (sym (c .unfit3 .ensures) ∙ fit)),
-    )
+returns-3 c = (
+  c .unfit3 .ensures ∙ rw (
+    sym (c .before .before .before .before .before .before .before .before .before .load-words .ensures .0) ∙ not-false (c .before .before .before .before .before .before .before .before .before .load-words .result .fits) (c .before .before .before .before .before .before .before .if1 .left),
+    sym (c .before .before .before .before .before .before .load-words2 .ensures .0) ∙ not-false (c .before .before .before .before .before .before .load-words2 .result .fits) (c .before .before .before .before .if2 .left),
+    sym (c .before .before .before .load-words3 .ensures .0) ∙ not-true (c .before .before .before .load-words3 .result .fits) (c .before .if3 .taken),
+  ),
+  λ fit. absurd (false≢true (sym (c .unfit3 .ensures) ∙ fit)),
+)
 
 load-words-requires-4 : tie.Need-load-words-requires-4
 load-words-requires-4 c κs = search needs
@@ -57,14 +58,15 @@ unfit-requires-4 : tie.Need-unfit-requires-4
 unfit-requires-4 c κs = search needs
 
 returns-4 : tie.Need-returns-4
-returns-4 c =
-    (
-      c .unfit4 .ensures ∙ rw (sym (c .before .before .before .before .before .before .before .before .before .before .before .before .load-words .ensures .0) ∙ not-false (c .before .before .before .before .before .before .before .before .before .before .before .before .load-words .result .fits) (c .before .before .before .before .before .before .before .before .before .before .if1 .left),
-      sym (c .before .before .before .before .before .before .before .before .before .load-words2 .ensures .0) ∙ not-false (c .before .before .before .before .before .before .before .before .before .load-words2 .result .fits) (c .before .before .before .before .before .before .before .if2 .left),
-      sym (c .before .before .before .before .before .before .load-words3 .ensures .0) ∙ not-false (c .before .before .before .before .before .before .load-words3 .result .fits) (c .before .before .before .before .if3 .left),
-      sym (c .before .before .before .load-words4 .ensures .0) ∙ not-true (c .before .before .before .load-words4 .result .fits) (c .before .if4 .taken)),
-      λ fit. absurd (false≢true (sym (c .unfit4 .ensures) ∙ fit)),
-    )
+returns-4 c = (
+  c .unfit4 .ensures ∙ rw (
+    sym (c .before .before .before .before .before .before .before .before .before .before .before .before .load-words .ensures .0) ∙ not-false (c .before .before .before .before .before .before .before .before .before .before .before .before .load-words .result .fits) (c .before .before .before .before .before .before .before .before .before .before .if1 .left),
+    sym (c .before .before .before .before .before .before .before .before .before .load-words2 .ensures .0) ∙ not-false (c .before .before .before .before .before .before .before .before .before .load-words2 .result .fits) (c .before .before .before .before .before .before .before .if2 .left),
+    sym (c .before .before .before .before .before .before .load-words3 .ensures .0) ∙ not-false (c .before .before .before .before .before .before .load-words3 .result .fits) (c .before .before .before .before .if3 .left),
+    sym (c .before .before .before .load-words4 .ensures .0) ∙ not-true (c .before .before .before .load-words4 .result .fits) (c .before .if4 .taken),
+  ),
+  λ fit. absurd (false≢true (sym (c .unfit4 .ensures) ∙ fit)),
+)
 
 returns-5 : tie.Need-returns-5
 returns-5 c =

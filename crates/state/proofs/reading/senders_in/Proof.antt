@@ -22,8 +22,7 @@ senders-of-requires : tie.Need-senders-of-requires
 senders-of-requires c κs =
     let a = c .before .before .args in
     let test = c .before .tree-sound in
-    let sound = sym (test .ensures) ∙ not-false (test .result) (c .if1 .left) in
-    (
+    let sound = sym (test .ensures) ∙ not-false (test .result) (c .if1 .left) in (
       search needs,
       sound-inside (tree-with (a .n) (take (a .n) (a .identifiers .now)) (a .parents .now) (a .depths .now) (a .shares .now)) sound (omega arith),
     )

@@ -1,37 +1,40 @@
+-- `state::rows::rows_sound` meets its contract: what the walks found is what the test of the rows asks for.
+-- Assumes nothing.
+use Rattle.state.proofs.Loading.{loaded}
+use Rattle.live_rules.specs.State.{live-in}
 use native.Mathlib.Omega.{arith}
 use borrow.Author.Needs.{needs}
 use Rattle.state.proofs.rows.rows_sound.Statement.{statement}
 use Rattle.state.proofs.rows.rows_sound.Tie as tie
-use Rattle.state.proofs.rows.rows_sound.Reads as reads
-use Rattle.state.proofs.rows.rows_sound.Lts as lts
-use Rattle.holding.proofs.firsts_of.Reads as firsts-of-reads
-use Rattle.holding.proofs.matches_of.Reads as matches-of-reads
-use Rattle.holding.proofs.rows_sound.Reads as rows-sound-reads
-use Rattle.soundness.proofs.children_sums.Reads as children-sums-reads
 
--- src/rows.rt:18:16
 sub-left : tie.Need-sub-left
 sub-left c = search needs
 
--- src/rows.rt:32:9
 firsts-of-requires : tie.Need-firsts-of-requires
 firsts-of-requires c κs = search needs
 
--- src/rows.rt:36:16
 children-sums-requires : tie.Need-children-sums-requires
-children-sums-requires c κs = ?
+children-sums-requires c κs =
+    let read = c .before .before .before .before .before .pre .1 in
+    (read .few-rows, λ r below. read .inside r)
 
--- src/rows.rt:37:17
 matches-of-requires : tie.Need-matches-of-requires
 matches-of-requires c κs = search needs
 
--- src/rows.rt:38:5
 rows-sound-requires : tie.Need-rows-sound-requires
-rows-sound-requires c κs = ?
+rows-sound-requires c κs =
+    let read = c .before .before .before .before .before .before .before .before .before .before .before .before .before .before .before .before .before .before .before .before .before .before .before .before .before .before .before .before .before .before .before .before .pre .1 in
+    (read .few-rows, omega (arith, read .few-accepted), read .inside)
 
--- src/rows.rt:12:1
 returns : tie.Need-returns
-returns c = ?
+returns c =
+    let s = c .before .before .before .before .before .before .before .before .before .before .before .before .before .before .before .before .before .before .before .before .before .before .before .before .before .before .before .before .before .before .before .before .before in
+    let w = s .args .words .now in
+    let firsts = c .before .before .before .before .before .before .before .before .before .before .before .before .before .before .before .before .before .before .before .before .before .before .before .before .before .before .before .before .before .before .before .firsts-of in
+    let sums = c .before .before .before .before .before .before .before .before .before .before .before .before .before .before .before .before .before .before .before .before .before .before .before .before .before .before .before .children-sums in
+    let marks = c .before .before .before .before .before .before .before .before .before .before .before .before .before .before .before .before .before .before .before .before .before .matches-of in
+    c .rows-sound .ensures (live-in w)
+    (loaded w (s .args .t2) (s .pre .1) (firsts .result) (sums .result) (marks .result) (firsts .ensures) (sums .ensures) (marks .ensures))
 
 pub rows-sound-spec : {M : Type 1} → statement M
 rows-sound-spec =
