@@ -1,5 +1,6 @@
 -- `store_counts` meets its contract: four lists, one after the other.
 -- Assumes nothing.
+use mathlib.Core.Path.{_∙_}
 use Rattle.live_rules.specs.State.{counts-stored}
 use borrow.Author.Needs.{needs}
 use Rattle.storing.proofs.store_counts.Statement.{statement}
@@ -22,7 +23,24 @@ same-length c = search needs
 
 returns : tie.Need-returns
 unfolding counts-stored
-returns c = (λ live bytes held since parent-since. cc, cc)
+returns c =
+    let fourth = c .before .before in
+    let third = fourth .before .before .before .before in
+    let second = third .before .before .before .before in
+    let first = second .before .before .before .before .before in (
+      λ live bytes held since parent-since.
+          rw (
+            bytes,
+            held,
+            since,
+            parent-since,
+            fourth .store-longs3 .ensures .0,
+            third .store-longs2 .ensures .0,
+            second .store-words .ensures .0,
+            first .store-longs .ensures .0,
+          ),
+      fourth .store-longs3 .ensures .1 ∙ third .store-longs2 .ensures .1 ∙ second .store-words .ensures .1 ∙ first .store-longs .ensures .1,
+    )
 
 pub store-counts-spec : {M : Type 1} → statement M
 store-counts-spec =
