@@ -1,0 +1,36 @@
+-- `store_tree` meets its contract: four lists, one after the other.
+-- Assumes nothing.
+use Rattle.live_rules.specs.State.{tree-stored}
+use borrow.Author.Needs.{needs}
+use Rattle.storing.proofs.store_tree.Statement.{statement}
+use Rattle.storing.proofs.store_tree.Tie as tie
+
+store-words-requires : tie.Need-store-words-requires
+store-words-requires c κs = search needs
+
+store-words-requires-2 : tie.Need-store-words-requires-2
+store-words-requires-2 c κs = search needs
+
+store-words-requires-3 : tie.Need-store-words-requires-3
+store-words-requires-3 c κs = search needs
+
+store-words-requires-4 : tie.Need-store-words-requires-4
+store-words-requires-4 c κs = search needs
+
+same-length : tie.Need-same-length
+same-length c = search needs
+
+returns : tie.Need-returns
+unfolding tree-stored
+returns c = (cc, cc)
+
+pub store-tree-spec : {M : Type 1} → statement M
+store-tree-spec =
+    tie.close
+    (tie.spec
+    store-words-requires
+    store-words-requires-2
+    store-words-requires-3
+    store-words-requires-4
+    same-length
+    returns)
