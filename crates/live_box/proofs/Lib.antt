@@ -1,0 +1,3 @@
+-- The theorems that the calls' proofs rest on, and that each contract leaves one outcome.
+pub mod FreshOutcome
+pub mod Unique

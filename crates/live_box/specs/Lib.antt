@@ -1,0 +1,2 @@
+-- What the contracts of the calls speak of beside the rules.
+pub mod Calls
