@@ -1,2 +1,3 @@
 -- What the contracts of the calls speak of beside the rules.
 pub mod Calls
+pub mod Reports
