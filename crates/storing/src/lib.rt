@@ -7,14 +7,15 @@ ghost use lib.Dec.{leb};
 ghost use lib.ListN as lists;
 ghost use lib.ListN.{getD, take, drop};
 ghost use lib.Seq.{sets};
-ghost use Rattle.input.specs.Limits.{most-rows};
+ghost use Rattle.input.specs.Limits.{most-rows, most-bytes};
+ghost use Rattle.hierarchy.specs.Next.{next-of};
 ghost use Rattle.live_rules.specs.Limits.{most-held};
 ghost use Rattle.input.specs.Lent.{tree-with};
 ghost use Rattle.rules.specs.Box.{Rows};
 ghost use Rattle.live_rules.specs.Layout.{rows-word, state-words, words-at, rows-at};
 ghost use Rattle.live_rules.specs.State.{Held, Live, queue, packets-at, rows-stored, tree-stored, tags-stored, heads-stored, counts-stored, packets-stored};
 ghost use Rattle.live_rules.specs.Soundness.{all};
-ghost use Rattle.storing.specs.Packets.{place-of, left-out, next-of, Worded};
+ghost use Rattle.storing.specs.Packets.{place-of, left-out, Worded};
 use input::MOST_ROWS;
 use input::RowLongs;
 use input::RowWords;
@@ -282,7 +283,7 @@ fn next_at(name: u64, length: u64) -> Next
 // The first packet of this class among the m that are held, from an index on.
 pub fn next_packet(state: &[u64], m: usize, from: usize, class: usize) -> Next
     requires { ⌜ m ≤ most-held ⌝ ∗ ⌜ state-words ≤ lists.length (now state) ⌝ ∗ ⌜ Worded (packets-at m (now state)) ⌝ }
-    ensures { λ r. ⌜ next-of (r .word) (r .size) ≡ take 1 (queue (drop from (packets-at m (now (state .entry)))) class) ⌝ }
+    ensures { λ r. ⌜ (next-of (r .word) (r .size) ≡ take 1 (queue (drop from (packets-at m (now (state .entry)))) class)) × (r .size ≤ most-bytes) ⌝ }
 {
     let wanted = counted(class);
     let mut i = from;
