@@ -1,21 +1,22 @@
 -- A fresh state: which refusal comes first, and what is left in each case; what is written, group by group.
 -- Assumes nothing.
-use Prim.Native.Nat.{ℕ, _≤_, _<_}
-use mathlib.Core.Path.{_≡_, refl, ap, sym, _∙_}
+use Prim.Native.Nat.{ℕ, _≤_}
+use mathlib.Core.Path.{_≡_, sym, ap, _∙_}
 use mathlib.Core.Logic.{_≢_}
 use mathlib.Core.List.{List, [], _∷_}
 use native.Mathlib.Omega.{arith}
+use lib.Dec.{ltb}
 use lib.ListN.{length}
 use lib.Seq.{sets}
-use borrow.Author.Tests.{eq-eqb, ne-eqb, lt-ltb, le-ltb}
+use borrow.Author.Tests.{ltb-false, ne-eqb}
 use Rattle.input.specs.declared.Refusal.{Refusal}
 use Rattle.input.specs.Classes.{Table, tree-of}
 use Rattle.input.specs.Refusals.{nothing, given, or-else, first, rows-refused, table-refused}
 use Rattle.input.specs.Lent.{tree-at}
-use Rattle.laws.proofs.tree.Trees.{tree-rows, tree-names}
+use Rattle.laws.proofs.tree.Trees.{or-none, given-none, tree-rows, tree-names}
 use Rattle.tables.specs.declared.Reading.{Reading}
-use Rattle.tables.specs.Answers.{refusal-of, accepting, answer}
-use Rattle.tables.proofs.Firsts.{or-else-first, or-else-second}
+use Rattle.tables.specs.Answers.{accepting, answer}
+use Rattle.tables.proofs.Firsts.{or-else-first, or-else-second, given-last, first-append}
 use Rattle.tables.proofs.Answering.{answer-accepts}
 use Rattle.checks.proofs.Whole.{answer-refusal}
 use Rattle.live_rules.specs.Layout.{rows-word, state-words}
@@ -24,32 +25,40 @@ use Rattle.live_rules.specs.Outcomes.{refusing, doing, fresh-refused, fresh-out
 use Rattle.live_box.specs.Calls.{left-of}
 
 module _ (table : Table) (words : List ℕ) where
-  -- ── a refusal ──
+  -- ── what is refused, in its order ──
+
+  -- 1, then 3: by the lengths of what is lent
+  abbrev pub lent-refused : Refusal
+  lent-refused = or-else (rows-refused table) (given (ltb (length words) state-words) 3 0)
+
+  split : fresh-refused table words ≡ or-else lent-refused (or-else (table-refused table) nothing)
+  unfolding fresh-refused first
+  split =
+      let short = given (ltb (length words) state-words) 3 0 in
+      first-append (rows-refused table ∷ short ∷ []) (table-refused table ∷ [])
+      ∙ ap (λ (r : Refusal). or-else (or-else (rows-refused table) r) (or-else (table-refused table) nothing))
+      (given-last (ltb (length words) state-words) 3 0 (λ none. omega arith))
 
   refusal-left : (r : Refusal) → fresh-refused table words ≡ r → r .number ≢ 0 → Made table words (left-of (refusing r) words)
   unfolding fresh-outcome
   refusal-left r is some = rw (is, ne-eqb (r .number) 0 some)
 
-  pub rows-left : (r : Refusal) → r ≡ rows-refused table → r .number ≢ 0 → Made table words (left-of (refusing r) words)
-  unfolding fresh-refused first
-  rows-left r is some = refusal-left r (rw (← is) (or-else-first r _ some)) some
+  module _ (lent : Refusal) (lent-is : lent ≡ lent-refused) where
+    pub lent-left : lent .number ≢ 0 → Made table words (left-of (refusing lent) words)
+    lent-left some = refusal-left lent (split ∙ rw (← lent-is) (or-else-first lent _ some)) some
 
-  module _ (equal : rows-refused table .number ≡ 0) where
-    pub short-left : (r : Refusal) → r ≡ refusal-of 3 0 0 → length words < state-words → Made table words (left-of (refusing r) words)
-    unfolding fresh-refused first given
-    short-left r is short =
-        rw is
-        (refusal-left (refusal-of 3 0 0)
-        (or-else-second (rows-refused table) _ equal
-        ∙ rw (lt-ltb (length words) state-words short) (or-else-first (refusal-of 3 0 0) _ (λ none. omega arith)))
-        (λ none. omega arith))
+    module _ (fine : lent .number ≡ 0) where
+      both : (rows-refused table .number ≡ 0) × (given (ltb (length words) state-words) 3 0 .number ≡ 0)
+      both = or-none (rows-refused table) (given (ltb (length words) state-words) 3 0) (rw (← lent-is) fine)
 
-    module _ (room : state-words ≤ length words) where
-      -- with 1 and 3 out of the way, the table's own are left
+      pub rows-fine : rows-refused table .number ≡ 0
+      rows-fine = both .0
+
+      pub room : state-words ≤ length words
+      room = ltb-false (length words) state-words (given-none (ltb (length words) state-words) 2 0 (both .1))
+
       own-refused : fresh-refused table words ≡ or-else (table-refused table) nothing
-      unfolding fresh-refused first given nothing
-      own-refused =
-          or-else-second (rows-refused table) _ equal ∙ rw (le-ltb (length words) state-words room) (or-else-second nothing _ refl)
+      own-refused = split ∙ rw (← lent-is) (or-else-second lent _ fine)
 
       module _ (reading : Reading) (is : reading ≡ answer (table-refused table) (tree-of table)) where
         refusal-is : reading .refusal ≡ table-refused table
@@ -59,7 +68,7 @@ module _ (table : Table) (words : List ℕ) where
         refused-left some =
             refusal-left (reading .refusal) (own-refused ∙ rw (← refusal-is) (or-else-first (reading .refusal) nothing some)) some
 
-        -- ── no refusal ──
+        -- ── nothing is refused ──
 
         module _ (none : reading .refusal .number ≡ 0) where
           passed : table-refused table .number ≡ 0
@@ -82,8 +91,7 @@ module _ (table : Table) (words : List ℕ) where
 
           pub made-left : (state : List ℕ) → state ≡ stored (fresh-live table) words → Made table words (left-of (doing []) state)
           unfolding fresh-outcome nothing
-          made-left state written =
-              rw (own-refused, or-else-second (table-refused table) nothing passed, written)
+          made-left state written = rw (own-refused, or-else-second (table-refused table) nothing passed, written)
 
 -- ── what is written ──
 

@@ -61,11 +61,10 @@ pub fn fresh(
         (left-of r (now (state .exit))) ⌝ }
 {
     let unequal = tables::rows_refused(identifiers.len(), parent_identifiers.len(), shares.len());
-    if unequal.number != 0 {
-        return refusing(unequal);
-    }
-    if state.len() < STATE_WORDS {
-        return refusing(tables::refusal(3, 0, 0));
+    let short = tables::given(state.len() < STATE_WORDS, 3, 0);
+    let lent = tables::or_else(unequal, short);
+    if lent.number != 0 {
+        return refusing(lent);
     }
     let reading = tables::read_sized(identifiers, parent_identifiers, shares);
     let refusal = reading.refusal;
