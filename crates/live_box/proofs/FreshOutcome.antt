@@ -22,7 +22,7 @@ use Rattle.checks.proofs.Whole.{answer-refusal}
 use Rattle.live_rules.specs.Layout.{rows-word, state-words}
 use Rattle.live_rules.specs.State.{fresh-live, tree-stored, tags-stored, heads-stored, counts-stored, packets-stored, stored}
 use Rattle.live_rules.specs.Outcomes.{refusing, doing, fresh-refused, fresh-outcome, Made}
-use Rattle.live_box.specs.Calls.{left-of}
+use Rattle.taking.specs.Taken.{left-of}
 
 module _ (table : Table) (words : List ℕ) where
   -- ── what is refused, in its order ──

@@ -8,7 +8,7 @@ ghost use Rattle.input.specs.Lent.{table-of};
 ghost use Rattle.live_rules.specs.Layout.{state-words};
 ghost use Rattle.live_rules.specs.State.{fresh-live, tags-stored, heads-stored, counts-stored, stored};
 ghost use Rattle.live_rules.specs.Outcomes.{Made};
-ghost use Rattle.live_box.specs.Calls.{left-of};
+ghost use Rattle.taking.specs.Taken.{left-of};
 use crate::answers::done;
 use crate::answers::refusing;
 use input::MOST_ROWS;
