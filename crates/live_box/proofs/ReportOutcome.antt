@@ -8,7 +8,7 @@ use mathlib.Core.List.{List, []}
 use mathlib.Mathlib.Data.Bool.Basic.{or-eq-false-eq-eq-false-and-eq-false as or-is-false}
 use native.Mathlib.Omega.{arith}
 use lib.Dec.{ltb}
-use lib.ListN.{length, getD}
+use lib.ListN.{length}
 use lib.IntN.{ℤ}
 use borrow.Author.Tests.{ltb-false, ne-eqb}
 use Rattle.input.specs.declared.Refusal.{Refusal}
