@@ -1,4 +1,5 @@
--- Laws of the live state's words: what is stored is read, and what is not stored stays.
+-- Laws of the live state's words: what is stored is read, and what is not stored stays; and the worked days.
 pub mod Stretches
 pub mod Rows
 pub mod Packets
+pub mod Worked

@@ -6,3 +6,4 @@ pub mod State
 pub mod Soundness
 pub mod Taking
 pub mod Outcomes
+pub mod Worked
