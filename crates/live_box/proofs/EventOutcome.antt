@@ -33,7 +33,7 @@ use Rattle.state.specs.Opened.{Opened}
 use Rattle.taking.specs.Taken.{ArrivalTakes, FinishTakes, left-of, taken}
 use Rattle.live_box.specs.Met.{Read, met}
 use Rattle.live_box.proofs.StateRefused.{short-refused, unsound-refused, sound-passes}
-use Rattle.live_box.proofs.ReportOutcome.{holds-in}
+use Rattle.live_laws.proofs.Calls.{holds-in}
 
 -- ── the refusals of the state ──
 

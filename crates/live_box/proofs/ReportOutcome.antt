@@ -25,8 +25,6 @@ use Rattle.live_rules.specs.State.{Live, box-of, tree-in, live-with, live-in}
 use Rattle.live_rules.specs.Soundness.{sound}
 use Rattle.live_rules.specs.Outcomes.{refusing, doing, state-refused, report-short, report-outcome, Tells}
 use Rattle.live_laws.specs.Holds.{Holds}
-use Rattle.live_laws.proofs.Shape.{shaped-in}
-use Rattle.live_laws.proofs.Telling.{sound-counted, sound-holds}
 use Rattle.live_laws.proofs.Narrowing.{narrow, fits}
 use Rattle.state.specs.declared.State.{State}
 use Rattle.state.specs.Opened.{Opened}
@@ -79,13 +77,6 @@ module _ (words report : List ℕ) (lags : List ℤ) where
 
     pub state-room : state-words ≤ length words
     state-room = rooms .2
-
--- what a sound state has, read from enough words
-pub holds-in : (words : List ℕ) → state-words ≤ length words → sound (live-in words) ≡ true → Holds (live-in words)
-unfolding live-in live-with tree-in
-holds-in words inside is-sound =
-    let counted = sound-counted (live-in words) is-sound in
-    sound-holds (live-in words) (shaped-in words inside (counted .some-rows) (counted .few-rows)) is-sound
 
 -- ── what a state that was read has for them ──
 

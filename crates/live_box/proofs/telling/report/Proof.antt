@@ -8,8 +8,9 @@ use lib.IntN.{ℤ}
 use borrow.Author.Tests.{not-true, not-false}
 use Rattle.live_rules.specs.State.{live-in}
 use Rattle.live_rules.specs.Soundness.{sound}
+use Rattle.live_laws.proofs.Calls.{holds-in}
 use Rattle.state.specs.Opened.{Opened}
-use Rattle.live_box.proofs.ReportOutcome.{short, short-left, unsound-left, written-left, report-room, lags-room, state-room, holds-in, tellable}
+use Rattle.live_box.proofs.ReportOutcome.{short, short-left, unsound-left, written-left, report-room, lags-room, state-room, tellable}
 use borrow.Author.Needs.{needs}
 use Rattle.live_box.proofs.telling.report.Statement.{statement}
 use Rattle.live_box.proofs.telling.report.Tie as tie
