@@ -15,6 +15,7 @@ pub mod promise;
 mod report;
 mod response;
 mod run;
+mod scheduler;
 mod sentences;
 mod shares;
 pub mod sheet;
