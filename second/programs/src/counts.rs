@@ -67,7 +67,7 @@ impl<'a> Counts<'a> {
     }
 }
 
-/// Byte counts are at most MOST_EVENTS * MOST_BYTES, so they always fit, also times 840.
+/// Byte counts are at most MOST_ACCEPTED * MOST_BYTES, so they always fit, also times 840.
 fn signed(bytes: u64) -> i64 {
     i64::try_from(bytes).unwrap_or(i64::MAX)
 }

@@ -9,6 +9,7 @@ mod csv;
 mod events;
 mod files;
 mod inside;
+pub mod live;
 mod print;
 pub mod program;
 pub mod promise;

@@ -18,10 +18,10 @@ pub fn write(scheduler: &Scheduler, order: impl IntoIterator<Item = u32>, lent: 
 
 /// Writes the rows' part of the report, and their lags.
 pub fn write_rows(scheduler: &Scheduler, report: &mut [u64], lags: &mut [i64]) {
-    for row in 0..scheduler.table.rows.len() {
-        let first = row * REPORT_WIDTH;
-        report[first..first + REPORT_WIDTH].copy_from_slice(&report_row(scheduler, row));
-        lags[row] = scheduler.counts.lag(row);
+    let rows = report.chunks_exact_mut(REPORT_WIDTH).zip(lags).enumerate();
+    for (row, (numbers, lag)) in rows.take(scheduler.table.rows.len()) {
+        numbers.copy_from_slice(&report_row(scheduler, row));
+        *lag = scheduler.counts.lag(row);
     }
 }
 

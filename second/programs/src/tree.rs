@@ -4,7 +4,7 @@ use std::collections::VecDeque;
 
 use crate::events::MOST_BYTES;
 use crate::inside::Choices;
-use crate::run::MOST_EVENTS;
+use crate::live::MOST_ACCEPTED;
 use crate::shares;
 use crate::table::Table;
 
@@ -20,7 +20,7 @@ pub struct Packet {
 /// No tag is over this. A start is never over the largest tag before its event, so a packet
 /// raises that by at most the charge for the longest one under share 1. Such a charge may
 /// be over 32 bits; that the product is within 64 is seen when this is built.
-const _: u64 = MOST_EVENTS as u64 * MOST_BYTES as u64 * shares::UNIT_COST as u64;
+const _: u64 = (MOST_ACCEPTED as u64 + 1) * MOST_BYTES as u64 * shares::UNIT_COST as u64;
 
 /// Tags are in ticks.
 #[derive(Clone, Default)]
