@@ -18,7 +18,7 @@ pub use live_box::{MOST_ACCEPTED, MOST_HELD};
 pub use program::respond;
 pub use sound::is_sound;
 pub use state_file::STATE_BYTES;
-pub use words::{State, STATE_WORDS};
+pub use words::{State, StateHead, StatePacket, StateRow, STATE_WORDS};
 
 /// What a call answers: as a run does, and the packet that was put on the line, else 0.
 #[derive(Clone, Copy, Debug, PartialEq, Eq)]

@@ -1,0 +1,164 @@
+//! Both programs side by side, each in a folder of its own whose files have the same names.
+
+use std::collections::BTreeMap;
+use std::fs;
+use std::io::{Error, Result};
+use std::path::{Path, PathBuf};
+use std::process::Command;
+
+use crate::shown::{differing_files, differing_prints};
+use crate::tally::Tally;
+use trials::{End, Fed, Printed};
+
+/// The proved program and the second one, and the proved replayer.
+#[derive(Clone)]
+pub struct Programs {
+    pub live: [PathBuf; 2],
+    pub replay: PathBuf,
+}
+
+/// Why a trial is not passed.
+pub enum Trouble {
+    /// The programs differ, or do something else than they must.
+    Wrong(String),
+    /// The trial cannot be made.
+    Failed(Error),
+}
+
+impl From<Error> for Trouble {
+    fn from(error: Error) -> Trouble {
+        Trouble::Failed(error)
+    }
+}
+
+pub type Tried<T> = std::result::Result<T, Trouble>;
+
+/// What a folder has in it, by path; nothing for what is no file that can be read.
+pub type Contents = BTreeMap<PathBuf, Option<Vec<u8>>>;
+
+pub struct Pair {
+    pub programs: Programs,
+    pub folders: [PathBuf; 2],
+    pub tally: Tally,
+    /// What both folders had in them before the last call.
+    pub before: Contents,
+}
+
+impl Pair {
+    pub fn new(programs: &Programs, folder: &Path) -> Result<Pair> {
+        let pair = Pair {
+            programs: programs.clone(),
+            folders: ["proved", "second"].map(|side| folder.join(side)),
+            tally: Tally::default(),
+            before: Contents::new(),
+        };
+        pair.clear()?;
+        Ok(pair)
+    }
+
+    /// Empties both folders.
+    pub fn clear(&self) -> Result<()> {
+        for folder in &self.folders {
+            if folder.exists() {
+                fs::remove_dir_all(folder)?;
+            }
+            fs::create_dir_all(folder)?;
+        }
+        Ok(())
+    }
+
+    /// Does the same in both folders.
+    pub fn each(&self, work: impl Fn(&Path) -> Result<()>) -> Result<()> {
+        self.folders.iter().try_for_each(|folder| work(folder))
+    }
+
+    /// Puts the same file into both folders.
+    pub fn put(&self, name: &str, bytes: &[u8]) -> Result<()> {
+        self.each(|folder| fs::write(folder.join(name), bytes))
+    }
+
+    /// A file that the proved program has left, and the other too.
+    pub fn get(&self, name: &str) -> Result<Vec<u8>> {
+        fs::read(self.folders[0].join(name))
+    }
+
+    /// What both programs print to these arguments.
+    pub fn ask(&mut self, arguments: &[&str]) -> Tried<Printed> {
+        self.ask_fed(arguments, |_| Fed::Nothing)
+    }
+
+    /// The same with something on standard input, by their folder.
+    pub fn ask_fed(&mut self, arguments: &[&str], fed: impl Fn(&Path) -> Fed) -> Tried<Printed> {
+        let command = |program: &Path| {
+            let mut command = Command::new(program);
+            command.args(arguments);
+            command
+        };
+        self.ask_by(command, fed)
+    }
+
+    /// The same with the programs started in another way.
+    pub fn ask_by(
+        &mut self,
+        command: impl Fn(&Path) -> Command,
+        fed: impl Fn(&Path) -> Fed,
+    ) -> Tried<Printed> {
+        self.before = contents(&self.folders[0])?;
+        let run = |side: usize| {
+            let folder = &self.folders[side];
+            let mut command = command(&self.programs.live[side]);
+            Printed::by(&mut command, &fed(folder), folder).map(|printed| (command, printed))
+        };
+        let ((command, proved), (_, second)) = (run(0)?, run(1)?);
+        let asked = format!("{:?} {:?}", command.get_program(), command.get_args());
+        self.agree(&asked, proved, second)
+    }
+
+    /// What both have printed and left, if it is the same.
+    pub fn agree(&mut self, asked: &str, proved: Printed, second: Printed) -> Tried<Printed> {
+        let ended = matches!(proved.end, End::Status(0..=2));
+        if !ended || proved != second {
+            return wrong(asked, &differing_prints(&proved, &second));
+        }
+        self.same_files(asked)?;
+        self.tally.add(&proved.output);
+        Ok(proved)
+    }
+
+    /// Whether both folders have the same in them.
+    pub fn same_files(&self, asked: &str) -> Tried<()> {
+        let [proved, second] = [contents(&self.folders[0])?, contents(&self.folders[1])?];
+        match proved == second {
+            true => Ok(()),
+            false => wrong(asked, &differing_files(&proved, &second)),
+        }
+    }
+}
+
+/// The trial fails: what was asked, and what came of it.
+pub fn wrong<T>(asked: &str, how: &str) -> Tried<T> {
+    Err(Trouble::Wrong(format!("{asked}\n{how}")))
+}
+
+/// Where what programs print is kept meanwhile.
+const STREAMS: [&str; 2] = ["output", "error"];
+
+pub fn contents(folder: &Path) -> Result<Contents> {
+    let mut all = Contents::new();
+    let mut folders = vec![folder.to_path_buf()];
+    while let Some(next) = folders.pop() {
+        for entry in fs::read_dir(&next)? {
+            let entry = entry?;
+            let (path, kind) = (entry.path(), entry.file_type()?);
+            let name = path.strip_prefix(folder).unwrap_or(&path).to_path_buf();
+            if STREAMS.iter().any(|stream| name == Path::new(stream)) {
+                continue;
+            }
+            if kind.is_dir() {
+                folders.push(path.clone());
+            }
+            all.insert(name, fs::read(&path).ok());
+        }
+    }
+    Ok(all)
+}
