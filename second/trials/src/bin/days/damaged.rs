@@ -239,3 +239,48 @@ pub fn several(pair: &mut Pair, seed: u64, number: usize) -> Tried<()> {
     }
     compare(pair, &words, &list(&mut random).event_text(), None)
 }
+
+#[cfg(test)]
+mod tests {
+    use super::*;
+
+    #[test]
+    fn each_state_is_sound_and_has_changes_of_both_kinds() {
+        for whole in wholes() {
+            assert!(is_sound(&whole.words), "{}", whole.name);
+            let changes = whole.changes(&mut Random::new(1, 1));
+            let sound = changes.iter().filter(|change| whole.with(change).is_some());
+            let sound = sound.count();
+            assert!(sound > 60 && changes.len() - sound > 60, "{}", whole.name);
+        }
+    }
+
+    #[test]
+    fn every_word_in_use_is_changed() {
+        for whole in wholes() {
+            let changes = whole.changes(&mut Random::new(1, 1));
+            let places = places_in_use(&whole.words);
+            let alone = |place: &usize| {
+                let of_place = changes.iter().filter(|c| c.len() == 1 && c[0].0 == *place);
+                of_place.count()
+            };
+            assert!(places.iter().all(|place| alone(place) >= 2));
+        }
+    }
+
+    /// A virtual time has a greatest number, and tags that have one together.
+    #[test]
+    fn edges_are_found() {
+        let busy = wholes().into_iter().find(|whole| whole.name == "busy");
+        let busy = busy.expect("there is one");
+        let edges = busy.edges(&[1_792]);
+        let most = 2 * 705_600 * 9_000;
+        let values: Vec<u64> = edges.iter().map(|change| change[0].1).collect();
+        assert_eq!(values, [most, most + 1, 0]);
+        for group in busy.groups() {
+            for change in busy.edges(&group) {
+                assert_eq!(change.len(), group.len());
+            }
+        }
+    }
+}

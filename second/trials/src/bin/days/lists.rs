@@ -112,3 +112,51 @@ fn packet(classes: &[u32], random: &mut Random) -> Event {
         length: length as u32,
     }
 }
+
+#[cfg(test)]
+mod tests {
+    use std::collections::BTreeSet;
+
+    use super::*;
+    use crate::states::state_after;
+    use second::live::event;
+    use trials::{even_table, random_table, SHAPES};
+
+    /// What is answered to a list from a fresh state.
+    fn numbers(rows: &[Row], events: &[Event]) -> Vec<u32> {
+        let mut words = state_after(rows, &[]);
+        let answered = |Event { class, length }: &Event| event(&mut words, *class, *length);
+        let answers = events.iter().map(answered);
+        answers.map(|answer| answer.answer.number).collect()
+    }
+
+    fn lists(list: fn(&[Row], usize, &mut Random) -> Vec<Event>) -> BTreeSet<u32> {
+        let numbers = (0..100).flat_map(|number| {
+            let mut random = Random::new(3, number);
+            let rows = random_table(random.pick(&SHAPES), 840, &mut random);
+            let events = list(&rows, 50, &mut random);
+            numbers(&rows, &events)
+        });
+        numbers.collect()
+    }
+
+    #[test]
+    fn lists_have_refused_events_of_each_kind() {
+        let all = BTreeSet::from([0, 11, 12, 13, 14]);
+        assert_eq!(lists(mixed), all);
+        assert_eq!(lists(restless), all);
+    }
+
+    #[test]
+    fn there_is_no_room_at_times() {
+        let rows = even_table(&[3]);
+        for number in 0..10 {
+            let events = filling(&rows, &mut Random::new(number, 0));
+            let numbers = numbers(&rows, &events);
+            let full = numbers.iter().position(|number| *number == 22);
+            let taken = full.map(|full| numbers[full..].iter().filter(|n| **n == 0).count());
+            assert!(taken.is_none_or(|taken| taken > 1));
+            assert!(numbers.iter().filter(|number| **number == 0).count() > MOST_HELD);
+        }
+    }
+}

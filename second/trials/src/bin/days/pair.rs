@@ -162,3 +162,59 @@ pub fn contents(folder: &Path) -> Result<Contents> {
     }
     Ok(all)
 }
+
+#[cfg(test)]
+mod tests {
+    use std::os::unix::fs::PermissionsExt;
+
+    use super::*;
+    use trials::Folder;
+
+    /// What becomes of a pair of which each side is such a script.
+    fn tried(scripts: [&str; 2]) -> Tried<Printed> {
+        let folder = Folder::fresh("pair").expect("a folder can be made");
+        let live = [0, 1].map(|side: usize| {
+            let path = folder.path().join(format!("live-{side}"));
+            let script = format!("#!/bin/sh\n{}\n", scripts[side]);
+            fs::write(&path, script).expect("it can be written");
+            let mode = fs::Permissions::from_mode(0o700);
+            fs::set_permissions(&path, mode).expect("it can be set");
+            path
+        });
+        let replay = PathBuf::new();
+        let programs = Programs { live, replay };
+        let mut pair = Pair::new(&programs, &folder.path().join("work"))?;
+        pair.put("state", b"before")?;
+        pair.ask(&["report", "state"])
+    }
+
+    fn is_wrong(scripts: [&str; 2]) -> bool {
+        matches!(tried(scripts), Err(Trouble::Wrong(_)))
+    }
+
+    #[test]
+    fn programs_agree_on_what_they_print_and_leave() {
+        let right = "echo one; echo two >&2; echo more >>state; mkdir new; exit 1";
+        assert!(tried([right, right]).is_ok_and(|printed| printed.end == End::Status(1)));
+        for other in [
+            "echo one; echo two >&2; echo more >>state; mkdir new; exit 2",
+            "echo One; echo two >&2; echo more >>state; mkdir new; exit 1",
+            "echo one; echo Two >&2; echo more >>state; mkdir new; exit 1",
+            "echo one; echo two >&2; echo less >>state; mkdir new; exit 1",
+            "echo one; echo two >&2; echo more >>state; mkdir new; echo >state.new; exit 1",
+            "echo one; echo two >&2; echo more >>state; mkdir new; echo >new/x; exit 1",
+            "echo one; echo two >&2; echo more >>state; exit 1",
+        ] {
+            assert!(
+                is_wrong([right, other]) && is_wrong([other, right]),
+                "{other}"
+            );
+        }
+    }
+
+    #[test]
+    fn programs_must_end_as_they_may() {
+        assert!(is_wrong(["exit 3", "exit 3"]));
+        assert!(is_wrong(["kill -SEGV $$", "kill -SEGV $$"]));
+    }
+}

@@ -95,3 +95,40 @@ fn differing_file(name: &Path, one: Content, other: Content) -> String {
     }
     text
 }
+
+#[cfg(test)]
+mod tests {
+    use std::path::PathBuf;
+
+    use super::*;
+    use trials::End;
+
+    fn printed(output: &str, error: &str) -> Printed {
+        Printed {
+            output: output.as_bytes().to_vec(),
+            error: error.as_bytes().to_vec(),
+            end: End::Status(1),
+        }
+    }
+
+    #[test]
+    fn streams_are_shown_from_the_line_that_differs() {
+        let text = differing_prints(&printed("a\nb\nc\n", "x\n"), &printed("a\nb\nd", "x\n"));
+        assert!(text.contains("from byte 4: c\\n (6 bytes)"), "{text}");
+        assert!(text.contains("from byte 4: d (5 bytes)"), "{text}");
+        assert!(text.contains("standard error, from byte 0: x\\n (2 bytes)"));
+    }
+
+    #[test]
+    fn states_are_shown_by_their_words() {
+        let state = |word: u8| {
+            let mut bytes = vec![0; 55_296];
+            bytes[16] = word;
+            Contents::from([(PathBuf::from("state"), Some(bytes))])
+        };
+        let text = differing_files(&state(1), &state(2));
+        assert!(text.contains("word 2: proved 1, second 2\n"), "{text}");
+        let text = differing_files(&state(1), &Contents::new());
+        assert!(text.contains("proved: a file of 55296 bytes, second: not there"));
+    }
+}

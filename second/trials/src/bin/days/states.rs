@@ -144,3 +144,103 @@ pub fn places_in_use(words: &[u64]) -> Vec<usize> {
     used.filter_map(|(place, used)| used.then_some(place))
         .collect()
 }
+
+#[cfg(test)]
+mod tests {
+    use super::*;
+    use crate::lists::{mixed, restless};
+    use trials::{random_table, SHAPES};
+
+    /// Random states of all shapes of tables, and what goes on with them.
+    fn states() -> impl Iterator<Item = (Vec<Row>, Vec<u64>, Random)> {
+        (0..300).map(|number| {
+            let mut random = Random::new(11, number);
+            let rows = random_table(random.pick(&SHAPES), 100, &mut random);
+            let most = random.below(60);
+            let words = state_after(&rows, &mixed(&rows, most, &mut random));
+            (rows, words, random)
+        })
+    }
+
+    #[test]
+    fn words_become_bytes_and_words_again() {
+        for (_, words, _) in states().take(20) {
+            assert_eq!(words_of(&bytes_of(&words)), Some(words));
+        }
+        assert_eq!(words_of(&[0; STATE_BYTES - 1]), None);
+        assert_eq!(words_of(&[0; STATE_BYTES + 8]), None);
+    }
+
+    #[test]
+    fn every_state_after_events_is_sound() {
+        assert!(states().all(|(_, words, _)| is_sound(&words)));
+    }
+
+    #[test]
+    fn words_out_of_use_are_filled_and_no_others() {
+        for (_, words, mut random) in states() {
+            let mut filled = words.clone();
+            fill(&mut filled, &mut random);
+            assert_eq!(in_use(&filled), in_use(&words));
+            let places = places_in_use(&words);
+            let rows = words[0] as usize;
+            assert_eq!(places.len(), 2 + 14 * rows + 3 * words[3_072] as usize);
+            let others = (0..STATE_WORDS).filter(|place| !places.contains(place));
+            let same = others.filter(|place| filled[*place] == words[*place]);
+            assert!(same.count() < 100);
+        }
+    }
+
+    #[test]
+    fn a_raised_state_is_sound() {
+        for (number, (_, words, _)) in states().enumerate() {
+            for great in [false, true] {
+                let mut raised = words.clone();
+                let to_come = number as u32 % 3;
+                raise(&mut raised, to_come, great);
+                assert!(is_sound(&raised));
+                assert_eq!(raised[1], u64::from(MOST_ACCEPTED - to_come));
+                assert_eq!(raised[1_792] >> 63 == 1, great);
+            }
+        }
+    }
+
+    #[test]
+    fn a_permuted_box_sends_the_same() {
+        let mut moved = 0;
+        for (rows, mut words, mut random) in states() {
+            let mut permuted = words.clone();
+            permute(&mut permuted, &mut random);
+            assert!(is_sound(&permuted));
+            let state = in_use(&permuted);
+            let below = |(row, parent): (u64, u64)| parent > row;
+            moved += usize::from((0..).zip(state.rows.iter().map(|r| r.parent)).any(below));
+            for Event { class, length } in restless(&rows, 40, &mut random) {
+                let same = event(&mut permuted, class, length);
+                assert_eq!(event(&mut words, class, length), same);
+            }
+        }
+        assert!(moved > 100);
+    }
+
+    /// From any sound state, one that no events lead to among them.
+    #[test]
+    fn a_sound_state_stays_sound() {
+        for (number, (rows, mut words, mut random)) in states().enumerate() {
+            if number % 2 == 0 {
+                permute(&mut words, &mut random);
+            }
+            if number % 3 == 0 {
+                raise(&mut words, 5, number % 6 == 0);
+            }
+            let before = words.clone();
+            wander(&mut words, 40, &mut random);
+            assert_ne!(words, before);
+            assert!(is_sound(&words));
+            for Event { class, length } in restless(&rows, 60, &mut random) {
+                event(&mut words, class, length);
+                assert!(is_sound(&words));
+            }
+        }
+    }
+}

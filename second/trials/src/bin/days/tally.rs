@@ -169,3 +169,59 @@ pub fn answers(output: &[u8]) -> Vec<[u32; 5]> {
     };
     lines.filter_map(numbers).collect()
 }
+
+#[cfg(test)]
+mod tests {
+    use super::*;
+
+    const OUTPUT: &[u8] = b"answer,place,second,count,packet\r\n0,0,0,1,7\r\n22,0,0,0,0\r\n";
+
+    #[test]
+    fn answers_are_read() {
+        assert_eq!(answers(OUTPUT), [[0, 0, 0, 1, 7], [22, 0, 0, 0, 0]]);
+        assert_eq!(numbers(OUTPUT), [0, 22]);
+        let report = b"identifier,bytes,start,finish,virtual,held,lag\r\n1,2,3,4,5,6,7\r\n";
+        for other in [&b""[..], &OUTPUT[..34], &OUTPUT[34..], report] {
+            assert_eq!(numbers(other), []);
+        }
+    }
+
+    #[test]
+    fn what_comes_up_too_seldom_or_never_may_is_named() {
+        let mut tally = Tally::default();
+        let wanted = ANSWERS.iter().filter(|(_, wanted)| *wanted > 0).count() + MET.len();
+        assert_eq!(tally.shortages().len(), wanted);
+        for (number, wanted) in ANSWERS {
+            tally.answers.insert(number, wanted);
+        }
+        for (what, _, wanted) in MET {
+            tally.met.insert(what, wanted);
+        }
+        assert_eq!(tally.shortages(), Vec::<String>::new());
+        tally.answers.insert(3, 1);
+        assert_eq!(tally.shortages(), ["answer 3 must never come up"]);
+    }
+
+    #[test]
+    fn tallies_are_joined() {
+        let mut one = Tally::default();
+        one.add(OUTPUT);
+        one.met(Met::Line);
+        let mut other = Tally::default();
+        other.add(OUTPUT);
+        other.met(Met::Line);
+        other.skipped.push("a disk: skipped".to_string());
+        other.wrong.insert(7, "so".to_string());
+        one.join(other);
+        assert_eq!((one.passed(), one.wrong.len()), (2, 1));
+        let text = one.text();
+        for line in [
+            "answer 0: 2\n",
+            "answer 22: 2\n",
+            "a line answered before the next: 2\n",
+        ] {
+            assert!(text.contains(line), "{text}");
+        }
+        assert!(text.ends_with("a disk: skipped\n"));
+    }
+}
