@@ -28,23 +28,23 @@ fn refused_columns(columns: &Columns, words: usize) -> (u32, u32, u32) {
 
 #[test]
 fn a_table_is_refused_as_by_the_run() {
-    let class = |identifier, parent, share| [ROOT, (10, 1, 420), (identifier, parent, share)];
-    let tables: [(&[Row], (u32, u32, u32)); 12] = [
-        (&[], (1, 0, 0)),
-        (&[ROOT], (1, 0, 0)),
-        (&wide(257), (1, 0, 0)),
-        (&[(0, 0, 0), (10, 0, 1)], (4, 0, 0)),
-        (&class(0, 1, 1), (4, 2, 0)),
-        (&class(65_536, 1, 1), (15, 2, 0)),
-        (&class(10, 1, 1), (5, 2, 1)),
-        (&[(1, 1, 0), (10, 1, 1)], (6, 0, 0)),
-        (&class(20, 20, 1), (7, 2, 0)),
-        (&class(20, 1, 0), (8, 2, 0)),
-        (&class(20, 1, 421), (10, 0, 0)),
-        (&chain(9), (9, 9, 0)),
+    let class = |identifier, parent, share| vec![ROOT, (10, 1, 420), (identifier, parent, share)];
+    let tables = [
+        (vec![], (1, 0, 0)),
+        (vec![ROOT], (1, 0, 0)),
+        (wide(257), (1, 0, 0)),
+        (vec![(0, 0, 0), (10, 0, 1)], (4, 0, 0)),
+        (class(0, 1, 1), (4, 2, 0)),
+        (class(65_536, 1, 1), (15, 2, 0)),
+        (class(10, 1, 1), (5, 2, 1)),
+        (vec![(1, 1, 0), (10, 1, 1)], (6, 0, 0)),
+        (class(20, 20, 1), (7, 2, 0)),
+        (class(20, 1, 0), (8, 2, 0)),
+        (class(20, 1, 421), (10, 0, 0)),
+        (chain(9), (9, 9, 0)),
     ];
     for (rows, refusal) in tables {
-        assert_eq!(refused_fresh(rows, WORDS), refusal, "{rows:?}");
+        assert_eq!(refused_fresh(&rows, WORDS), refusal, "{rows:?}");
     }
 }
 

@@ -191,9 +191,7 @@ fn a_head_is_that_of_a_child() {
     let words = state_after(&HALVES, &[(10, 100), (20, 100), (10, 7)]);
     let other = [(HEAD, 2), (HEAD_LENGTH, 100), (HEAD_CLASS, 2)];
     assert!(with(&words, &other));
-    for part in [&other[..2], &other[1..], &[other[0], other[2]]] {
-        assert_eq!(with(&words, part), part == &[other[0], other[2]]);
-    }
+    assert!(!with(&words, &other[..2]) && !with(&words, &other[1..]));
     // The packet that waits behind a head is nobody's.
     assert!(!with(&words, &[(HEAD, 3), (HEAD_LENGTH, 7)]));
 }

@@ -39,7 +39,7 @@ enum Kind {
 use Kind::{Faulty, Full, Great, Last, Permuted, Plain, Refused, Text, Wandered};
 
 const ROUND: [Kind; 20] = [
-    Plain, Plain, Plain, Plain, Plain, Plain, Full, Full, Last, Last, Great, Great, Permuted,
+    Plain, Plain, Plain, Plain, Plain, Plain, Plain, Full, Last, Last, Great, Great, Permuted,
     Permuted, Wandered, Wandered, Faulty, Faulty, Refused, Text,
 ];
 
@@ -169,7 +169,7 @@ impl<'a> Day<'a> {
         let most = random.pick(&[20, 60, 200]);
         match self.kind {
             Full => filling(rows, random),
-            Last | Great if random.one_in(4) => filling(rows, random),
+            Last | Great if random.one_in(8) => filling(rows, random),
             Last | Great | Wandered => restless(rows, most, random),
             _ => mixed(rows, most, random),
         }

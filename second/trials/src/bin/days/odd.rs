@@ -11,8 +11,10 @@ use std::process::Command;
 use crate::day::{LIST, STATE, TABLE};
 use crate::pair::{wrong, Pair, Tried};
 use crate::shown::whole_print;
+use crate::states::{bytes_of, raise, words_of};
 use crate::talk::unwritable_later;
-use crate::tally::{Met, HEADING};
+use crate::tally::{numbers, Met, HEADING};
+use second::live::MOST_HELD;
 use trials::{End, Fed, Printed};
 
 const ROWS: &str = "identifier,parent,share\r\n1,0,0\r\n10,1,420\r\n20,1,400\r\n30,1,20\r\n";
@@ -29,7 +31,7 @@ const NO_FILE: &str = "there is no such file\n";
 /// A trial by its name; both folders have a table, a fresh state of it and a list.
 pub type Trial = (&'static str, fn(&mut Pair) -> Tried<()>);
 
-pub const TRIALS: [Trial; 24] = [
+pub const TRIALS: [Trial; 25] = [
     ("wrong calls", wrong_calls),
     ("a state called like standard input", dash),
     ("states of other sizes", sizes),
@@ -44,6 +46,7 @@ pub const TRIALS: [Trial; 24] = [
     ("odd names", odd_names),
     ("lists without a heading", headings),
     ("line ends", line_ends),
+    ("neither room nor a count", neither_room_nor_count),
     ("a list of over 65,536 events", long_list),
     ("a list with refusals alone", refused_list),
     ("long lines", long_lines),
@@ -437,29 +440,54 @@ fn line_ends(pair: &mut Pair) -> Tried<()> {
     Ok(())
 }
 
+/// With 1,024 packets held, an arrival gets 21 where no more are counted, and 22 before.
+fn neither_room_nor_count(pair: &mut Pair) -> Tried<()> {
+    let full = format!("class,length\n{}", "10,9\n".repeat(MOST_HELD));
+    pair.put(LIST, full.as_bytes())?;
+    pair.ask(&["events", STATE, LIST])?;
+    let state = pair.get(STATE)?;
+    let list = b"class,length\n20,1\n7,7\n1,1\n20,0\n0,1\n0,0\n20,1\n20,1\n";
+    pair.put(LIST, list)?;
+    for (to_come, wanted) in [
+        (0, [21, 11, 12, 13, 13, 0, 21, 21]),
+        (1, [22, 11, 12, 13, 13, 0, 0, 21]),
+        (2, [22, 11, 12, 13, 13, 0, 0, 22]),
+    ] {
+        let mut words = words_of(&state).unwrap_or_default();
+        raise(&mut words, to_come, to_come == 1);
+        pair.put(STATE, &bytes_of(&words))?;
+        let printed = pair.ask(&["events", STATE, LIST])?;
+        if numbers(&printed.output) != wanted {
+            let asked = format!("live events, with {to_come} packets to come");
+            return wrong(&asked, &whole_print(&printed));
+        }
+    }
+    Ok(())
+}
+
 /// It is read in many pieces, whose ends fall into lines.
 fn long_list(pair: &mut Pair) -> Tried<()> {
     let mut list = String::from("class,length\n");
-    for round in 0..12_000 {
+    for round in 0..10_000 {
         let length = 1 + round * 7919 % 9_000;
         list += &format!("10,{length}\r\n20,9000\n0,0\n0,0\n7,7\n30,{length}\n0,0\n");
     }
     pair.put(LIST, list.as_bytes())?;
     pair.ask(&["events", STATE, LIST])?;
     pair.ask(&["report", STATE])?;
-    // The same again, with a fault in the end.
-    pair.put(LIST, format!("{list}10,x\n").as_bytes())?;
-    pair.ask(&["events", STATE, LIST])?;
-    let arguments = ["events", STATE, "-"];
-    let fed = |_: &Path| Fed::Pipe(list[..200_000].as_bytes().to_vec());
-    pair.ask_fed(&arguments, fed).map(|_| ())
+    // Pieces of it, by a pipe, and one that ends in a line.
+    let some = &list.as_bytes()[..100_000];
+    let fed = |_: &Path| Fed::Pipe(some.to_vec());
+    pair.ask_fed(&["events", STATE, "-"], fed)?;
+    pair.put(LIST, some)?;
+    pair.ask(&["events", STATE, LIST]).map(|_| ())
 }
 
 fn refused_list(pair: &mut Pair) -> Tried<()> {
     let before = pair.get(STATE)?;
     let list = format!(
         "class,length\n{}",
-        "0,0\n1,1\n7,7\n10,0\n0,9\n".repeat(8_000)
+        "0,0\n1,1\n7,7\n10,0\n0,9\n".repeat(4_000)
     );
     pair.put(LIST, list.as_bytes())?;
     pair.ask(&["events", STATE, LIST])?;
@@ -602,26 +630,31 @@ fn closed_folder(pair: &mut Pair) -> Tried<()> {
         return Ok(());
     }
     let state = pair.get(STATE)?;
-    let closed = Permissions::from_mode(0o555);
-    pair.each(|folder| {
-        let folder = folder.join("closed");
-        fs::create_dir(&folder)?;
-        fs::write(folder.join(STATE), &state)?;
-        fs::set_permissions(&folder, closed.clone())
-    })?;
-    let name = "closed/state";
-    let said = "cannot write closed/state: this user may not write it\n";
-    for (arguments, answers) in [
-        (["events", name, LIST], Some("")),
-        (["fresh", TABLE, name], None),
-        (["fresh", TABLE, name], None),
+    let allow = |pair: &Pair, mode: u32| {
+        let mode = Permissions::from_mode(mode);
+        pair.each(|folder| fs::set_permissions(folder.join("closed"), mode.clone()))
+    };
+    pair.each(|folder| fs::create_dir(folder.join("closed")))?;
+    pair.put("closed/state", &state)?;
+    allow(pair, 0o555)?;
+    let tried = in_closed_folder(pair, &state);
+    // It must be open to be removed.
+    allow(pair, 0o755)?;
+    tried
+}
+
+fn in_closed_folder(pair: &mut Pair, state: &[u8]) -> Tried<()> {
+    let [name, other] = ["closed/state", "closed/other"];
+    for (arguments, answers, unwritten) in [
+        (["events", name, LIST], Some(""), name),
+        (["fresh", TABLE, name], None, name),
+        (["fresh", TABLE, other], None, other),
     ] {
         let printed = pair.ask_by(as_user(&arguments), |_| Fed::Nothing)?;
-        pair.is(&arguments, &printed, answers, said)?;
+        let said = format!("cannot write {unwritten}: this user may not write it\n");
+        pair.is(&arguments, &printed, answers, &said)?;
     }
     let report = pair.ask_by(as_user(&["report", name]), |_| Fed::Nothing)?;
-    let open = Permissions::from_mode(0o755);
-    pair.each(|folder| fs::set_permissions(folder.join("closed"), open.clone()))?;
     match report.end == End::Status(0) && pair.get(name)? == state {
         true => Ok(()),
         false => wrong("a folder that may not be written", &whole_print(&report)),

@@ -5,10 +5,14 @@ use std::fs;
 use std::io::{Error, Result};
 use std::path::{Path, PathBuf};
 use std::process::Command;
+use std::time::Duration;
 
 use crate::shown::{differing_files, differing_prints};
 use crate::tally::Tally;
 use trials::{End, Fed, Printed};
+
+/// Far more than a list of any length here takes.
+const MOST_TIME: Duration = Duration::from_secs(60);
 
 /// The proved program and the second one, and the proved replayer.
 #[derive(Clone)]
@@ -107,7 +111,8 @@ impl Pair {
         let run = |side: usize| {
             let folder = &self.folders[side];
             let mut command = command(&self.programs.live[side]);
-            Printed::by(&mut command, &fed(folder), folder).map(|printed| (command, printed))
+            let printed = Printed::within(MOST_TIME, &mut command, &fed(folder), folder);
+            printed.map(|printed| (command, printed))
         };
         let ((command, proved), (_, second)) = (run(0)?, run(1)?);
         let asked = format!("{:?} {:?}", command.get_program(), command.get_args());
