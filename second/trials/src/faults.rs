@@ -1,7 +1,7 @@
 //! Faults of the text form: what makes a list one that cannot be read, and a table faulty or not
 //! there.
 
-use trials::{lines, Files, Random};
+use crate::{lines, Files, Random};
 
 /// What the two files must begin with.
 const HEADINGS: [&[u8]; 2] = [b"identifier,parent,share\r\n", b"class,length\n"];
@@ -109,11 +109,21 @@ pub fn put_in(files: &mut Files, fault: Fault, random: &mut Random) {
         0 => &mut files.table,
         _ => &mut files.events,
     };
-    let Some(bytes) = file else {
-        return;
-    };
+    match (file, fault) {
+        (file, Fault::Missing) => *file = None,
+        (Some(bytes), _) => put_in_text(bytes, HEADINGS[which], fault, random),
+        (None, _) => {}
+    }
+}
+
+/// Puts the fault into a list, unless it is that there is none.
+pub fn put_in_list(list: &mut Vec<u8>, fault: Fault, random: &mut Random) {
+    put_in_text(list, HEADINGS[1], fault, random);
+}
+
+fn put_in_text(bytes: &mut Vec<u8>, heading: &[u8], fault: Fault, random: &mut Random) {
     match fault {
-        Fault::Missing => *file = None,
+        Fault::Missing | Fault::Two => {}
         Fault::EmptyFile => bytes.clear(),
         Fault::CutAnywhere => bytes.truncate(random.below(bytes.len() + 1)),
         Fault::ByteChanged | Fault::ByteDropped | Fault::ByteAdded => {
@@ -121,7 +131,7 @@ pub fn put_in(files: &mut Files, fault: Fault, random: &mut Random) {
         }
         _ => {
             let mut parts = lines(bytes);
-            line_fault(&mut parts, HEADINGS[which], fault, random);
+            line_fault(&mut parts, heading, fault, random);
             *bytes = parts.concat();
         }
     }
@@ -223,8 +233,8 @@ mod tests {
     use std::fs;
 
     use super::*;
+    use crate::{random_events, random_table, Case, Folder, Shape};
     use second::program::Response;
-    use trials::{random_events, random_table, Case, Folder, Shape};
 
     /// What the second program answers to these files.
     fn response(folder: &Folder, files: &Files) -> Response {

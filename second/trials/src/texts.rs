@@ -1,11 +1,12 @@
 //! Tables' texts with a fault of each number.
 
-use crate::faults::{NOT_DIGITS, TOO_LARGE};
 use second::program::MOST_TEXT;
-use trials::{lines, Files, Random};
+
+use crate::faults::{NOT_DIGITS, TOO_LARGE};
+use crate::{lines, Files, Random};
 
 /// All faults of a table's text.
-pub const NUMBERS: [u32; 8] = [40, 41, 42, 43, 44, 45, 46, 47];
+pub const TEXT_FAULTS: [u32; 8] = [40, 41, 42, 43, 44, 45, 46, 47];
 
 /// Bytes of the heading.
 const HEADING: usize = 23;
@@ -149,8 +150,8 @@ mod tests {
     use std::collections::BTreeSet;
 
     use super::*;
+    use crate::{random_table, Case, Shape};
     use second::{read_table, Answer, TableRoom};
-    use trials::{random_table, Case, Shape};
 
     /// What reading answers to a random table with a fault of this number.
     fn answer(number: u32, list: u64) -> Answer {
@@ -170,7 +171,7 @@ mod tests {
 
     #[test]
     fn each_fault_has_its_number() {
-        for number in NUMBERS {
+        for number in TEXT_FAULTS {
             for list in 0..400 {
                 assert_eq!(answer(number, list).number, number, "{list}");
             }
