@@ -116,7 +116,8 @@ fn read_all(file: i32, start: Scan, first: &mut [u32], second: &mut [u32]) -> Tu
     turn
 }
 
-fn read_some(file: i32, scan: Scan, first: &mut [u32], second: &mut [u32]) -> Turn
+// One read, of at most 65,536 bytes. Where it gives none, no more comes.
+pub fn read_some(file: i32, scan: Scan, first: &mut [u32], second: &mut [u32]) -> Turn
     ensures { λ r. ⌜ columns.Filled (columns.columns-of scan (now (first .entry)) (now (second .entry)))
         (columns.columns-of (r .scan) (now (first .exit)) (now (second .exit))) ⌝ }
 {
