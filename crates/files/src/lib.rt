@@ -21,6 +21,8 @@ pub use opening::input_twice;
 pub use opening::open;
 pub use opening::twice;
 pub use reading::first;
+pub use reading::judged;
+pub use reading::keep;
 pub use reading::load;
 pub use reading::read_some;
 pub use tables::first_bytes;
