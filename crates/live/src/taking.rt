@@ -13,7 +13,7 @@ use state_files::store_state;
 use words::wide;
 use words::word;
 
-// Events of one read at most: it has 65,536 bytes, of which the first may end a line, and each line more takes four or more.
+// Events of one read at most (`Few: few-events`): of its 65,536 bytes the first may end one, and each one more takes four or more.
 pub const MOST_A_READ: usize = 16384;
 
 // Room for so many answers (`Room: live-room` of the crate `forms`).
