@@ -98,6 +98,9 @@ fn take_some(file: i32, name: &[u8], taken: Taken, state: &mut [u64]) -> Taken
     let scan = turn.scan;
     let count = events_of(scan.lines);
     let status = take(&classes, &lengths, count, taken.events, state);
+    if let Status::Failed = status {
+        return stopped(status);
+    }
     let before = taken.status;
     onwards(
         name,
@@ -121,7 +124,7 @@ fn events_of(lines: u64) -> u32 {
 // How it goes on after a read, with the status and the events so far.
 fn onwards(name: &[u8], turn: Turn, status: Status, events: u64) -> Taken {
     let scan = turn.scan;
-    if goes_on(turn, status) {
+    if goes_on(turn) {
         return Taken {
             more: true,
             status,
@@ -129,14 +132,11 @@ fn onwards(name: &[u8], turn: Turn, status: Status, events: u64) -> Taken {
             scan: counting(scan, heading_of(scan)),
         };
     }
-    stopped(worse(status, ended(name, turn, status, events)))
+    stopped(worse(status, ended(name, turn, events)))
 }
 
-// Whether it does.
-fn goes_on(turn: Turn, status: Status) -> bool {
-    if let Status::Failed = status {
-        return false;
-    }
+// Whether more may come, and no line was wrong.
+fn goes_on(turn: Turn) -> bool {
     if !turn.more {
         return false;
     }
@@ -145,11 +145,8 @@ fn goes_on(turn: Turn, status: Status) -> bool {
     !text::wrong(found)
 }
 
-// How the list ended, which is said where it is wrong; where the program failed before, nothing more is said.
-fn ended(name: &[u8], turn: Turn, status: Status, events: u64) -> Status {
-    if let Status::Failed = status {
-        return status;
-    }
+// How a list of so many events ended; what is wrong with it is said.
+fn ended(name: &[u8], turn: Turn, events: u64) -> Status {
     let scan = turn.scan;
     let end = judged(
         name,
