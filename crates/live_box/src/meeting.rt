@@ -38,7 +38,8 @@ fn arrival(words: &mut [u64], state: State, class: u32, size: u32) -> LiveAnswer
     let senders = state.senders;
     let row = tables::row_of(&identifiers[..rows], class);
     let check = checks::check_packet(rows, &senders, 0, row, size);
-    let refusal = tables::or_else(check.refusal, full_refused(state.accepted, state.packets));
+    let full = full_refused(state.accepted, state.packets);
+    let refusal = tables::or_else(check.refusal, full);
     if refusal.number != 0 {
         return refusing(refusal);
     }
