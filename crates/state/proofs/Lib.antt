@@ -3,3 +3,4 @@ pub mod Parts
 pub mod Unfit
 pub mod Opening
 pub mod Loading
+pub mod Unique
