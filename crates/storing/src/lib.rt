@@ -5,9 +5,10 @@ ghost use mathlib.Core.List.{List, [], _∷_, _++_};
 ghost use Prim.Native.Nat.{ℕ, _+_, _≤_, _<_, _^_};
 ghost use lib.Dec.{leb};
 ghost use lib.ListN as lists;
-ghost use lib.ListN.{getD, take, drop, replicate};
+ghost use lib.ListN.{getD, take, drop};
 ghost use lib.Seq.{sets};
 ghost use Rattle.input.specs.Limits.{most-rows};
+ghost use Rattle.input.specs.Classes.{zeros};
 ghost use Rattle.live_rules.specs.Limits.{most-held};
 ghost use Rattle.live_rules.specs.Layout.{state-words, words-at, rows-at};
 ghost use Rattle.live_rules.specs.State.{Held, queue, packets-at, rows-stored, packets-stored};
@@ -38,7 +39,7 @@ pub fn load_longs(state: &[u64], at: usize, n: usize) -> RowLongs
 
 // The same into an array of zeros that is lent.
 pub fn fill_longs(state: &[u64], at: usize, n: usize, list: &mut RowLongs)
-    requires { ⌜ n ≤ most-rows ⌝ ∗ ⌜ at + most-rows ≤ lists.length (now state) ⌝ ∗ ⌜ now list ≡ replicate most-rows 0 ⌝ }
+    requires { ⌜ n ≤ most-rows ⌝ ∗ ⌜ at + most-rows ≤ lists.length (now state) ⌝ ∗ ⌜ now list ≡ zeros ⌝ }
     ensures { λ _. ⌜ now (list .exit) ≡ rows-at at n (now (state .entry)) ⌝ }
 {
     let mut r = 0;
@@ -50,7 +51,7 @@ pub fn fill_longs(state: &[u64], at: usize, n: usize, list: &mut RowLongs)
 
 // The same as shorter words: whether each is at most `most`. If not, the list means nothing.
 pub fn fill_words(state: &[u64], at: usize, n: usize, most: u64, list: &mut RowWords) -> bool
-    requires { ⌜ n ≤ most-rows ⌝ ∗ ⌜ at + most-rows ≤ lists.length (now state) ⌝ ∗ ⌜ most < 2 ^ 32 ⌝ ∗ ⌜ now list ≡ replicate most-rows 0 ⌝ }
+    requires { ⌜ n ≤ most-rows ⌝ ∗ ⌜ at + most-rows ≤ lists.length (now state) ⌝ ∗ ⌜ most < 2 ^ 32 ⌝ ∗ ⌜ now list ≡ zeros ⌝ }
     ensures { λ b. ⌜ b ≡ all n (λ (i : ℕ). leb (getD (now (state .entry)) (at + i) 0) most) ⌝ }
     ensures { λ b. ⌜ (b ≡ true → now (list .exit) ≡ rows-at at n (now (state .entry))) ⌝ }
 {

@@ -2,6 +2,7 @@
 -- Assumes nothing.
 use Prim.Native.Nat.{_-_, _≤_}
 use mathlib.Core.Path.{_≡_, refl, _∙_}
+use Rattle.input.specs.Classes.{zeros}
 use Rattle.live_rules.specs.Layout.{rows-at}
 use Rattle.live_rules.proofs.Rows.{rows-none}
 use Rattle.storing.proofs.Turns.{read-turn}
@@ -17,6 +18,7 @@ abbrev μ-loop : tie.MeasureT-loop
 μ-loop state at n list₀ r₀ list r = n - r
 
 loop-holds : tie.Need-loop-holds Inv-loop μ-loop
+unfolding zeros
 loop-holds c = (omega arith, c .pre .1 .1 ∙ rows-none (c .args .at) (c .args .state .now))
 
 add-list : tie.Need-add-list Inv-loop μ-loop

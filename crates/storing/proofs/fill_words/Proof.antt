@@ -6,6 +6,7 @@ use mathlib.Core.Bool.{Bool, true}
 use lib.Dec.{leb}
 use lib.ListN.{getD}
 use borrow.Author.Tests.{le-leb, lt-leb}
+use Rattle.input.specs.Classes.{zeros}
 use Rattle.live_rules.specs.Layout.{rows-at}
 use Rattle.live_rules.specs.Soundness.{all}
 use Rattle.live_rules.proofs.Rows.{rows-none}
@@ -22,6 +23,7 @@ abbrev μ-loop : tie.MeasureT-loop
 μ-loop state at n most list₀ r₀ list r = n - r
 
 loop-holds : tie.Need-loop-holds Inv-loop μ-loop
+unfolding zeros
 loop-holds c = (omega arith, all-none _, c .before .pre .1 .1 .1 ∙ rows-none (c .before .args .at) (c .before .args .state .now))
 
 add-word : tie.Need-add-word Inv-loop μ-loop
