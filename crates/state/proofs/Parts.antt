@@ -3,12 +3,21 @@
 use mathlib.Core.Path.{_≡_, refl, sym, ap, _∙_}
 use mathlib.Core.Bool.{Bool, true, false, _&&_, and-assoc}
 use Rattle.live_rules.specs.State.{Live, events}
+use Rattle.live_laws.proofs.Tests.{both-true}
 use Rattle.live_rules.specs.Soundness.{all, few, tree-sound, packets-sound, in-order, row-sound, sound}
 
 -- what cannot be true is false
 pub refuted : (b : Bool) → (b ≡ true → ⊥) → b ≡ false
 refuted true never = absurd (never refl)
 refuted false never = refl
+
+-- of four that are all true each is
+pub four-true : (a b c d : Bool) → (a && (b && (c && d))) ≡ true → (a ≡ true) × (b ≡ true) × (c ≡ true) × (d ≡ true)
+four-true a b c d all-so =
+    let first = both-true a (b && (c && d)) all-so in
+    let second = both-true b (c && d) (first .1) in
+    let third = both-true c d (second .1) in
+    (first .0, second .0, third .0, third .1)
 
 module _ (live : Live) where
   -- the packets and the order of their names, which one walk tests

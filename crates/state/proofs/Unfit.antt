@@ -1,28 +1,65 @@
 -- A word that is over its limit is in no sound state.
 -- Assumes nothing.
 use Prim.Native.Nat.{ℕ, _+_, _≤_, _<_}
-use mathlib.Core.Path.{_≡_, sym, ap, _∙_}
+use mathlib.Core.Path.{_≡_, refl, sym, ap, _∙_}
 use mathlib.Core.Bool.{Bool, true, false, _&&_, false≢true}
 use mathlib.Core.List.{List}
+use native.Mathlib.Decide.{decLe}
 use native.Mathlib.Omega.{arith}
-use borrow.Author.Tests.{le-leb}
+use borrow.Author.Tests.{le-leb, leb-true}
 use lib.Dec.{leb}
 use lib.ListN.{length, getD}
-use Rattle.input.specs.Limits.{most-depth, most-identifier, most-bytes, whole}
+use Rattle.input.specs.Limits.{most-rows, most-depth, most-identifier, most-bytes, whole}
 use Rattle.live_rules.specs.Limits.{most-held}
-use Rattle.live_rules.specs.Layout.{rows-word, words-at, rows-at}
+use Rattle.live_rules.specs.Layout.{rows-word, state-words, words-at, rows-at}
 use Rattle.live_rules.specs.Layout.{identifiers-at, parents-at, depths-at, shares-at, heads-at, head-lengths-at, head-classes-at, held-at}
 use Rattle.live_rules.specs.State.{tree-in, rows-in, live-with, live-in}
-use Rattle.live_rules.specs.Soundness.{all, sound}
+use Rattle.live_rules.specs.Soundness.{all, few, sound}
 use Rattle.live_rules.proofs.Stretches.{words-get}
-use Rattle.live_rules.proofs.Rows.{rows-get}
+use Rattle.live_rules.proofs.Rows.{rows-get, rows-zero}
+use Rattle.holding.specs.Rows.{Inside}
 use Rattle.live_laws.specs.Narrow.{Narrow}
-use Rattle.live_laws.proofs.Tests.{true-both, true-all}
+use Rattle.live_laws.proofs.Tests.{true-both, all-true, true-all}
 use Rattle.live_laws.proofs.Shape.{shaped-in}
-use Rattle.live_laws.proofs.Telling.{sound-holds}
+use Rattle.live_laws.proofs.Telling.{few-counted, sound-holds}
 use Rattle.live_laws.proofs.Narrowing.{narrow}
-use Rattle.state.specs.Reading.{InUse}
+use Rattle.state.specs.Reading.{counts-of, filled, HasLists}
+use Rattle.state.specs.declared.State.{State}
+use Rattle.state.specs.declared.counts.Counts.{Counts}
 use Rattle.state.proofs.Parts.{refuted}
+
+-- the first n rows are in use
+pub record InUse (words : List ℕ) (n : ℕ) : Type 0 where
+  pub long : state-words ≤ length words
+  pub rows : n ≡ getD words rows-word 0
+  pub some : 0 < n
+  pub few : n ≤ most-rows
+
+-- they are where the counts are as many as there can be
+pub in-use : (words : List ℕ) (n : ℕ) → state-words ≤ length words → n ≡ getD words rows-word 0 → few (live-in words) ≡ true → InUse words n
+unfolding live-in live-with tree-in
+in-use words n long same pass =
+    let all = few-counted (live-in words) pass in
+    record { long = long; rows = same; some = omega arith; few = omega arith }
+
+-- what was counted of the words
+pub few-of : (words : List ℕ) (counts : Counts) (b : Bool) → counts ≡ counts-of words → counts .few ≡ b → few (live-in words) ≡ b
+unfolding counts-of
+few-of words counts b same is = sym (ap (λ (c : Counts). c .few) same) ∙ is
+
+pub rows-of : (words : List ℕ) (counts : Counts) → counts ≡ counts-of words → counts .rows ≡ getD words rows-word 0
+unfolding counts-of
+rows-of words counts same = ap (λ (c : Counts). c .rows) same
+
+pub counted-use :
+    (words : List ℕ) (counts : Counts) → state-words ≤ length words → counts ≡ counts-of words → counts .few ≡ true → InUse words (counts .rows)
+counted-use words counts long same pass = in-use words (counts .rows) long (rows-of words counts same) (few-of words counts true same pass)
+
+-- the rows of a state whose tree was read
+pub filled-use : (words : List ℕ) (heads longs : Bool) (s : State) → state-words ≤ length words → HasLists heads longs words s → InUse words (s .rows)
+unfolding filled
+filled-use words heads longs s long has =
+    in-use words (s .rows) long (ap (λ (r : State). r .rows) (has .same) ∙ rows-of words (counts-of words) refl) (has .few-so)
 
 -- the words of the first n rows from a place on are at most this
 abbrev at-most : List ℕ → ℕ → ℕ → ℕ → Bool
@@ -82,6 +119,22 @@ module _ (words : List ℕ) (n : ℕ) (used : InUse words n) where
 
   pub tree-unfit : tree-small ≡ false → sound (live-in words) ≡ false
   tree-unfit large = refuted (sound (live-in words)) (λ pass. false≢true (sym large ∙ tree-fits pass))
+
+  -- parents that fit are rows that there can be, those of rows out of use too
+  pub inside-so : (parents : List ℕ) → parents ≡ rows-at parents-at n words → at-most words n parents-at 255 ≡ true → Inside parents
+  inside-so parents same small r = go (decLe n r)
+    where
+      go : Dec (n ≤ r) → getD parents r 0 < most-rows
+      go (yes out) =
+          let here = ap (λ (xs : List ℕ). getD xs r 0) same in
+          let none = rows-zero parents-at n words (inside parents-at (omega arith)) r out in
+          omega arith
+      go (no within) =
+          let here = ap (λ (xs : List ℕ). getD xs r 0) same in
+          let word = rows-get parents-at n words (inside parents-at (omega arith)) r (omega arith) in
+          let few = leb-true (getD words (parents-at + r) 0) 255
+          (all-true n (λ (i : ℕ). leb (getD words (parents-at + i) 0) 255) small r (omega arith)) in
+          omega arith
 
   abbrev heads-small : Bool
   heads-small =

@@ -7,7 +7,7 @@ ghost use lib.ListN as lists;
 ghost use Rattle.input.specs.Limits.{most-rows};
 ghost use Rattle.live_rules.specs.Limits.{most-held, most-accepted};
 ghost use Rattle.live_rules.specs.Layout.{state-words};
-ghost use Rattle.state.specs.Reading.{Counted};
+ghost use Rattle.state.specs.Reading.{counts-of};
 use input::MOST_ROWS;
 use live_rules::ACCEPTED_WORD;
 use live_rules::HELD_AT;
@@ -50,7 +50,7 @@ fn count(word: u64) -> usize
 
 pub fn counts_in(words: &[u64]) -> Counts
     requires { ⌜ state-words ≤ lists.length (now words) ⌝ }
-    ensures { λ r. ⌜ Counted (now (words .entry)) r ⌝ }
+    ensures { λ r. ⌜ r ≡ counts-of (now (words .entry)) ⌝ }
 {
     let rows = count(words[ROWS_WORD]);
     let packets = count(words[HELD_AT]);

@@ -1,33 +1,23 @@
 // A lent live state, read into arrays of rows and tested whole.
-ghost use mathlib.Core.Path.{_≡_};
-ghost use mathlib.Core.Bool.{false};
 ghost use Prim.Native.Nat.{_≤_};
 ghost use lib.ListN as lists;
 ghost use Rattle.live_rules.specs.Layout.{state-words};
 ghost use Rattle.state.specs.Opened.{Opens};
 
 mod counts;
-mod lists;
+mod filling;
 mod reading;
-mod rows;
 
-use input::MOST_ROWS;
 use input::RowLongs;
 use input::RowMarks;
 use input::RowWords;
 
 // A state as it was read: whether it is sound, and where it is, its numbers as arrays with an entry for each row that there can be.
 pub struct State {
-    pub sound: bool,
-    pub rows: usize,
-    // how many are held
-    pub packets: usize,
-    pub accepted: u64,
     pub identifiers: RowWords,
     pub parents: RowWords,
     pub depths: RowWords,
     pub shares: RowWords,
-    pub senders: RowMarks,
     pub starts: RowLongs,
     pub finishes: RowLongs,
     pub virtuals: RowLongs,
@@ -38,49 +28,57 @@ pub struct State {
     pub held: RowWords,
     pub since: RowLongs,
     pub parent_since: RowLongs,
+    pub senders: RowMarks,
+    // how many rows are in use, and how many packets are held and were accepted; behind the arrays, since they would be copied otherwise
+    pub rows: usize,
+    pub packets: usize,
+    pub accepted: u64,
+    pub sound: bool,
 }
 
-// A state that is not sound: its arrays mean nothing.
-fn unsound() -> State
-    ensures { λ r. ⌜ r .sound ≡ false ⌝ }
-{
-    let words = [0u32; MOST_ROWS];
-    let longs = [0u64; MOST_ROWS];
-    let marks = [false; MOST_ROWS];
-    State {
-        sound: false,
-        rows: 0,
-        packets: 0,
-        accepted: 0,
-        identifiers: words,
-        parents: words,
-        depths: words,
-        shares: words,
-        senders: marks,
-        starts: longs,
-        finishes: longs,
-        virtuals: longs,
-        heads: words,
-        head_lengths: words,
-        head_classes: words,
-        bytes: longs,
-        held: words,
-        since: longs,
-        parent_since: longs,
-    }
-}
-
-// The state in the words.
+// The state in the words: in the end what each class's queue begins with, what children hold and which heads were passed on, each from one walk,
+// and then every row.
 pub fn open(words: &[u64]) -> State
     requires { ⌜ state-words ≤ lists.length (now words) ⌝ }
     ensures { λ r. ⌜ Opens (now (words .entry)) r ⌝ }
 {
-    let state = reading::read(words);
+    let mut state = reading::read(words);
     if !state.sound {
-        return unsound();
+        return state;
     }
-    if !rows::rows_sound(words, state) {
-        return unsound();
-    }
+    let n = state.rows;
+    let left = state.accepted - state.packets as u64;
+    let firsts = holding::firsts_of(words, state.packets);
+    let sums = soundness::children_sums(n, &state.parents, &state.held);
+    let marks = holding::matches_of(
+        n,
+        &state.parents,
+        &state.heads,
+        &state.head_lengths,
+        &state.head_classes,
+    );
+    let sound = holding::rows_sound(
+        n,
+        left,
+        &state.parents,
+        &state.shares,
+        &state.senders,
+        &state.starts,
+        &state.finishes,
+        &state.virtuals,
+        &state.heads,
+        &state.head_lengths,
+        &state.head_classes,
+        &state.bytes,
+        &state.held,
+        &state.since,
+        &state.parent_since,
+        &sums,
+        &marks,
+        &firsts.counts,
+        &firsts.words,
+        &firsts.sizes,
+    );
+    state.sound = sound;
     state
 }

@@ -8,6 +8,7 @@ ghost use lib.ListN as lists;
 ghost use lib.ListN.{getD, take, drop};
 ghost use lib.Seq.{sets};
 ghost use Rattle.input.specs.Limits.{most-rows, most-bytes};
+ghost use Rattle.input.specs.Classes.{zeros};
 ghost use Rattle.hierarchy.specs.Next.{next-of};
 ghost use Rattle.live_rules.specs.Limits.{most-held};
 ghost use Rattle.input.specs.Lent.{tree-with};
@@ -53,6 +54,36 @@ pub fn load_longs(state: &[u64], at: usize, n: usize) -> RowLongs
         r += 1;
     }
     list
+}
+
+// The same into an array of zeros that is lent.
+pub fn fill_longs(state: &[u64], at: usize, n: usize, list: &mut RowLongs)
+    requires { ⌜ n ≤ most-rows ⌝ ∗ ⌜ at + most-rows ≤ lists.length (now state) ⌝ ∗ ⌜ now list ≡ zeros ⌝ }
+    ensures { λ _. ⌜ now (list .exit) ≡ rows-at at n (now (state .entry)) ⌝ }
+{
+    let mut r = 0;
+    while r < n {
+        list[r] = state[at + r];
+        r += 1;
+    }
+}
+
+// The same as shorter words: whether each is at most `most`. If not, the list means nothing.
+pub fn fill_words(state: &[u64], at: usize, n: usize, most: u64, list: &mut RowWords) -> bool
+    requires { ⌜ n ≤ most-rows ⌝ ∗ ⌜ at + most-rows ≤ lists.length (now state) ⌝ ∗ ⌜ most < 2 ^ 32 ⌝ ∗ ⌜ now list ≡ zeros ⌝ }
+    ensures { λ b. ⌜ b ≡ all n (λ (i : ℕ). leb (getD (now (state .entry)) (at + i) 0) most) ⌝ }
+    ensures { λ b. ⌜ (b ≡ true → now (list .exit) ≡ rows-at at n (now (state .entry))) ⌝ }
+{
+    let mut r = 0;
+    while r < n {
+        let word = state[at + r];
+        if word > most {
+            return false;
+        }
+        list[r] = shorter(word);
+        r += 1;
+    }
+    true
 }
 
 // The same as shorter words, where each is at most `most`; else the list means nothing.

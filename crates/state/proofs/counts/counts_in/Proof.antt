@@ -1,5 +1,6 @@
 -- `state::counts::counts_in` meets its contract: the three words, and the test of them.
 -- Assumes nothing.
+use Rattle.state.specs.Reading.{counts-of}
 use Rattle.live_rules.proofs.Packets.{packets-length}
 use Rattle.live_rules.specs.Soundness.{few}
 use Rattle.live_rules.specs.State.{tree-in, live-with, live-in}
@@ -30,15 +31,10 @@ are-few-requires : tie.Need-are-few-requires
 are-few-requires c κs = search needs
 
 returns : tie.Need-returns
-unfolding few live-in live-with tree-in
+unfolding counts-of few live-in live-with tree-in
 returns c =
     let words = c .before .before .before .before .before .before .before .args .words .now in
-    record {
-      few = rw (packets-length (getD words held-at 0) words, ← c .before .before .before .before .count .ensures, ← c .before .before .count2 .ensures) (c .are-few .ensures);
-      rows = c .before .before .before .before .count .ensures;
-      packets = c .before .before .count2 .ensures;
-      accepted = search needs;
-    }
+    rw (packets-length (getD words held-at 0) words, c .are-few .ensures, c .before .before .before .before .count .ensures, c .before .before .count2 .ensures)
 
 pub counts-in-spec : {M : Type 1} → statement M
 counts-in-spec =
