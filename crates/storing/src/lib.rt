@@ -42,21 +42,7 @@ use live_rules::VIRTUALS_AT;
 
 // ── lists of rows ──
 
-// The words of the first n rows from a place on, and zeros for the rows out of use.
-pub fn load_longs(state: &[u64], at: usize, n: usize) -> RowLongs
-    requires { ⌜ n ≤ most-rows ⌝ ∗ ⌜ at + most-rows ≤ lists.length (now state) ⌝ }
-    ensures { λ r. ⌜ r ≡ rows-at at n (now (state .entry)) ⌝ }
-{
-    let mut list = [0u64; MOST_ROWS];
-    let mut r = 0;
-    while r < n {
-        list[r] = state[at + r];
-        r += 1;
-    }
-    list
-}
-
-// The same into an array of zeros that is lent.
+// The words of the first n rows from a place on, into an array of zeros, which stay for the rows out of use.
 pub fn fill_longs(state: &[u64], at: usize, n: usize, list: &mut RowLongs)
     requires { ⌜ n ≤ most-rows ⌝ ∗ ⌜ at + most-rows ≤ lists.length (now state) ⌝ ∗ ⌜ now list ≡ zeros ⌝ }
     ensures { λ _. ⌜ now (list .exit) ≡ rows-at at n (now (state .entry)) ⌝ }
@@ -86,7 +72,7 @@ pub fn fill_words(state: &[u64], at: usize, n: usize, most: u64, list: &mut RowW
     true
 }
 
-// The same as shorter words, where each is at most `most`; else the list means nothing.
+// Such a list by value, where each word fits.
 pub struct Narrow {
     pub fits: bool,
     pub list: RowWords,
@@ -105,16 +91,8 @@ pub fn load_words(state: &[u64], at: usize, n: usize, most: u64) -> Narrow
     ensures { λ r. ⌜ (r .fits ≡ true → r .list ≡ rows-at at n (now (state .entry))) ⌝ }
 {
     let mut list = [0u32; MOST_ROWS];
-    let mut r = 0;
-    while r < n {
-        let word = state[at + r];
-        if word > most {
-            return Narrow { fits: false, list };
-        }
-        list[r] = shorter(word);
-        r += 1;
-    }
-    Narrow { fits: true, list }
+    let fits = fill_words(state, at, n, most, &mut list);
+    Narrow { fits, list }
 }
 
 // The first n rows of a list, into the words from a place on.
