@@ -21,12 +21,12 @@ fn inside(parent: u32) -> usize
 }
 
 // Which rows have the head of one of their children among the first n.
-pub fn matches_of(
+pub fn matches_of<'a>(
     n: usize,
-    parents: &RowWords,
-    heads: &RowWords,
-    head_lengths: &RowWords,
-    head_classes: &RowWords,
+    parents: &'a RowWords,
+    heads: &'a RowWords,
+    head_lengths: &'a RowWords,
+    head_classes: &'a RowWords,
 ) -> RowMarks
     requires { ⌜ (n ≤ most-rows) × Inside (now parents) ⌝ }
     ensures { λ marks. ⌜ Matches (now (parents .entry)) (now (heads .entry)) (now («head_lengths» .entry)) (now («head_classes» .entry)) n marks ⌝ }
@@ -210,27 +210,27 @@ fn counts_sound(
 }
 
 // Whether each of the first n rows is sound, once so many packets have left.
-pub fn rows_sound(
+pub fn rows_sound<'a>(
     n: usize,
     left: u64,
-    parents: &RowWords,
-    shares: &RowWords,
-    senders: &RowMarks,
-    starts: &RowLongs,
-    finishes: &RowLongs,
-    virtuals: &RowLongs,
-    heads: &RowWords,
-    head_lengths: &RowWords,
-    head_classes: &RowWords,
-    bytes: &RowLongs,
-    held: &RowWords,
-    since: &RowLongs,
-    parent_since: &RowLongs,
-    sums: &RowLongs,
-    marks: &RowMarks,
-    counts: &RowWords,
-    firsts: &RowWords,
-    sizes: &RowWords,
+    parents: &'a RowWords,
+    shares: &'a RowWords,
+    senders: &'a RowMarks,
+    starts: &'a RowLongs,
+    finishes: &'a RowLongs,
+    virtuals: &'a RowLongs,
+    heads: &'a RowWords,
+    head_lengths: &'a RowWords,
+    head_classes: &'a RowWords,
+    bytes: &'a RowLongs,
+    held: &'a RowWords,
+    since: &'a RowLongs,
+    parent_since: &'a RowLongs,
+    sums: &'a RowLongs,
+    marks: &'a RowMarks,
+    counts: &'a RowWords,
+    firsts: &'a RowWords,
+    sizes: &'a RowWords,
 ) -> bool
     requires { ⌜ (n ≤ most-rows) × (left ≤ most-accepted) × Inside (now parents) ⌝ }
     ensures { λ b. ⌜ RowsTested (Loaded n left (now (parents .entry)) (now (shares .entry)) (now (senders .entry)) (now (starts .entry)) (now (finishes .entry))

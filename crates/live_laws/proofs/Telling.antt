@@ -31,7 +31,7 @@ use Rattle.live_laws.proofs.TellingTags.{root-tags, tells-root, headed-
 -- ── the parts of the test ──
 
 module _ (live : Live) where
-  few-counted : few live ≡ true → Counted live
+  pub few-counted : few live ≡ true → Counted live
   unfolding few
   few-counted pass =
       let first = both-true (leb 1 (live .tree .rows)) _ pass in

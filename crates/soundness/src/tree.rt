@@ -42,7 +42,7 @@ pub fn senders_of(n: usize, parents: &RowWords) -> RowMarks
 }
 
 // What the children of each row, among the first n rows, have in a list together.
-pub fn children_sums(n: usize, parents: &RowWords, list: &RowWords) -> RowLongs
+pub fn children_sums<'a>(n: usize, parents: &'a RowWords, list: &'a RowWords) -> RowLongs
     requires { ⌜ n ≤ most-rows ⌝ }
     requires { ⌜ Inside n (now parents) ⌝ }
     ensures { λ sums. ⌜ Sums n (now (parents .entry)) (now (list .entry)) sums ⌝ }
@@ -158,12 +158,12 @@ fn within_whole(n: usize, sums: &RowLongs) -> bool
 }
 
 // Whether the tree of the first n rows is as an accepted table is read.
-pub fn tree_sound(
+pub fn tree_sound<'a>(
     n: usize,
-    identifiers: &RowWords,
-    parents: &RowWords,
-    depths: &RowWords,
-    shares: &RowWords,
+    identifiers: &'a RowWords,
+    parents: &'a RowWords,
+    depths: &'a RowWords,
+    shares: &'a RowWords,
 ) -> bool
     requires { ⌜ n ≤ most-rows ⌝ }
     requires { ⌜ 0 < n ⌝ }
