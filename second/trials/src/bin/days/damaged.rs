@@ -38,6 +38,7 @@ fn two_levels() -> Vec<Row> {
 
 /// Sound states of many kinds, the same each time.
 pub fn wholes() -> Vec<Whole> {
+    let rows = two_levels();
     let busy = [
         packet(4, 100),
         packet(3, 9_000),
@@ -47,40 +48,46 @@ pub fn wholes() -> Vec<Whole> {
         packet(4, 9_000),
         packet(3, 1),
     ];
-    let mut all = Vec::new();
-    let mut add = |name, rows: &[Row], words: Vec<u64>| {
-        let [first, last] = [0, sending(rows).len() - 1].map(|place| sending(rows)[place]);
-        let list = format!("class,length\n0,0\n{first},7\n0,0\n{last},9000\n70000,1\n0,0\n0,0\n");
-        let name: &'static str = name;
-        all.push(Whole { name, words, list });
-    };
-    let rows = two_levels();
-    add("fresh", &rows, state_after(&rows, &[]));
-    add("busy", &rows, state_after(&rows, &busy));
     let idle = [&busy[..], &[FINISH; 5]].concat();
-    add("idle again", &rows, state_after(&rows, &idle));
+    let mut all = vec![
+        Whole::new("fresh", &rows, state_after(&rows, &[])),
+        Whole::new("busy", &rows, state_after(&rows, &busy)),
+        Whole::new("idle again", &rows, state_after(&rows, &idle)),
+    ];
     for (name, great) in [("few to come", false), ("great tags", true)] {
         let mut words = state_after(&rows, &busy);
         raise(&mut words, 1, great);
-        add(name, &rows, words);
+        all.push(Whole::new(name, &rows, words));
     }
-    let mut random = Random::new(5, 5);
-    let deep = even_table(&[1, 1, 1, 1, 1, 1, 1, 2]);
-    let mut words = state_after(&deep, &restless(&deep, 30, &mut random));
-    permute(&mut words, &mut random);
-    add("deep, in other rows", &deep, words);
-    add("deep, fresh", &deep, state_after(&deep, &[]));
-    let two = even_table(&[2, 2]);
-    let each: Vec<Event> = sending(&two)
-        .into_iter()
-        .map(|class| packet(class, 9))
-        .collect();
-    let events = [&each[..], &[FINISH], &each].concat();
-    add("two by two", &two, state_after(&two, &events));
+    all.extend(other_tables());
     all
 }
 
+/// Those of the greatest depth, and of two classes with two below each.
+fn other_tables() -> [Whole; 3] {
+    let mut random = Random::new(5, 5);
+    let deep = even_table(&[1, 1, 1, 1, 1, 1, 1, 2]);
+    let mut moved = state_after(&deep, &restless(&deep, 30, &mut random));
+    permute(&mut moved, &mut random);
+    let two = even_table(&[2, 2]);
+    let classes = sending(&two).into_iter();
+    let each: Vec<Event> = classes.map(|class| packet(class, 9)).collect();
+    let events = [&each[..], &[FINISH], &each].concat();
+    [
+        Whole::new("deep, in other rows", &deep, moved),
+        Whole::new("deep, fresh", &deep, state_after(&deep, &[])),
+        Whole::new("two by two", &two, state_after(&two, &events)),
+    ]
+}
+
 impl Whole {
+    fn new(name: &'static str, rows: &[Row], words: Vec<u64>) -> Whole {
+        let classes = sending(rows);
+        let [first, last] = [0, classes.len() - 1].map(|place| classes[place]);
+        let list = format!("class,length\n0,0\n{first},7\n0,0\n{last},9000\n70000,1\n0,0\n0,0\n");
+        Whole { name, words, list }
+    }
+
     /// Both programs over the state with this change.
     pub fn compare(&self, pair: &mut Pair, change: &Change) -> Tried<()> {
         let words = changed(&self.words, change);
