@@ -95,10 +95,9 @@ fn no_count_left_is_said() {
     assert_eq!(said, answers(output, &sentences, 1));
 }
 
-#[test]
-fn a_refused_table_has_the_runs_sentence() {
-    let day = Day::empty("live_table");
-    let tables: [(String, &str, &str); 4] = [
+/// Tables that are refused: their text, answer and sentence.
+fn refused_tables() -> [(String, &'static str, &'static str); 4] {
+    [
         (
             table_text(&[ROOT]),
             "1,0,0,0,0\n",
@@ -121,21 +120,21 @@ fn a_refused_table_has_the_runs_sentence() {
             "refused 40 in table: the text has more than 65536 bytes; no table has more than \
              4371: give it 2 to 256 rows.\n",
         ),
-    ];
-    for (text, line, sentence) in tables {
+    ]
+}
+
+#[test]
+fn a_refused_table_has_the_runs_sentence() {
+    for (text, line, sentence) in refused_tables() {
+        let day = Day::empty("live_table");
         day.put("table", text.as_bytes());
-        for existing in [None, Some(b"anything")] {
-            if let Some(bytes) = existing {
-                day.put("state", bytes);
-            }
-            let said = day.live(&["fresh", "table", "state"]);
-            assert_eq!(said, answers(line, sentence, 1));
-            match existing {
-                Some(bytes) => assert_eq!(day.get("state"), bytes),
-                None => assert_eq!(day.names(), ["table"]),
-            }
-        }
-        std::fs::remove_file(day.folder.join("state")).expect("it can be removed");
+        let said = day.live(&["fresh", "table", "state"]);
+        assert_eq!(said, answers(line, sentence, 1));
+        assert_eq!(day.names(), ["table"]);
+        day.put("state", b"anything");
+        let said = day.live(&["fresh", "table", "state"]);
+        assert_eq!(said, answers(line, sentence, 1));
+        assert_eq!(day.get("state"), b"anything");
     }
 }
 

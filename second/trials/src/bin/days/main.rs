@@ -1,6 +1,7 @@
 //! The program `days PROVED SECOND [SEED [DAYS]]`: two folders' programs `live` over the same days.
 #![forbid(unsafe_code)]
 
+mod changes;
 mod damaged;
 mod day;
 mod lists;
@@ -20,7 +21,8 @@ use std::process::ExitCode;
 use std::sync::atomic::{AtomicUsize, Ordering};
 use std::thread;
 
-use damaged::{several, wholes, Change, Whole};
+use changes::{changes, Change};
+use damaged::{several, wholes, Whole};
 use day::day;
 use odd::{odd, TRIALS};
 use pair::{Contents, Pair, Programs, Tried, Trouble};
@@ -123,7 +125,7 @@ fn settings(arguments: &[OsString]) -> Result<Settings> {
             let mut random = Random::new(seed, 0);
             let all = wholes().into_iter();
             let with_changes = |whole: Whole| {
-                let changes = whole.changes(&mut random);
+                let changes = changes(&whole.words, &mut random);
                 (whole, changes)
             };
             Ok(Settings {
