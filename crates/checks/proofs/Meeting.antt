@@ -20,8 +20,35 @@ use Rattle.rules.specs.Promise.{within, for-part, one-arrival, one-finish, arri
 use Rattle.laws.proofs.tree.Trees.{or-none, given-none, place-most}
 use Rattle.tables.specs.Answers.{refusal-of}
 use Rattle.checks.specs.declared.EventCheck.{EventCheck}
-use Rattle.checks.specs.Counted.{counted-refused, Known, Meets}
+use Rattle.checks.specs.Counted.{counted-refused, Known, Found, Meets}
 use Rattle.tables.proofs.Firsts.{Plain, or-else-second, given-plain, or-else-plain, last-plain, below-plain, stopped}
+
+-- ── an arrival ──
+
+module _
+    (tree : Tree) (rows : ℕ) (senders : List Bool) (class row : ℕ) (found : Found tree rows senders class row) (i word : ℕ) (idle : Bool) (bytes : ℕ) where
+  unknown-class : row ≡ rows → refusal-of 11 i 0 ≡ meeting-refused tree i word (Arrival class bytes) idle
+  unfolding meeting-refused or-else given nothing
+  unknown-class end =
+      rw (eq-eqb (row-of tree class) (tree .rows) (sym (found .row-is) ∙ end ∙ sym (found .rows-are))) refl
+
+  pub met-unknown : (refusal : Refusal) → refusal ≡ refusal-of 11 i 0 → row ≡ rows
+      → Meets tree i word (Arrival class bytes) idle (record { refusal = refusal; row = 0 })
+  met-unknown refusal eleven end =
+      let number = ap (λ (r : Refusal). r .number) eleven in
+      record { refusal = eleven ∙ unknown-class end; row = λ none. absurd (omega arith) }
+
+  known-class : row < rows → packet-refused i (getD senders row false) bytes ≡ meeting-refused tree i word (Arrival class bytes) idle
+  unfolding meeting-refused or-else given nothing
+  known-class inside =
+      let rows-are = found .rows-are in
+      let row-is = found .row-is in
+      rw (ne-eqb (row-of tree class) (tree .rows) (λ e. omega arith), ← row-is, found .sending row inside) refl
+
+  pub met-known : (refusal : Refusal) → refusal ≡ packet-refused i (getD senders row false) bytes → row < rows
+      → Meets tree i word (Arrival class bytes) idle (record { refusal = refusal; row = row })
+  unfolding row-for
+  met-known refusal packet inside = record { refusal = packet ∙ known-class inside; row = λ none. found .row-is }
 
 -- ── rows ──
 
@@ -34,31 +61,9 @@ module _ (tree : Tree) (identifiers : List ℕ) (senders : List Bool) (known : K
   unfolding row-of
   row-within class = rw (known .names) (place-most class identifiers)
 
-  module _ (i word : ℕ) (idle : Bool) (class bytes row : ℕ) (found : row ≡ place-of class identifiers) where
-    unknown-class : row ≡ length identifiers → refusal-of 11 i 0 ≡ meeting-refused tree i word (Arrival class bytes) idle
-    unfolding meeting-refused or-else given nothing
-    unknown-class end =
-        rw (eq-eqb (row-of tree class) (tree .rows) (row-found class ∙ sym found ∙ end ∙ sym (known .rows))) refl
-
-    pub met-unknown : (refusal : Refusal) → refusal ≡ refusal-of 11 i 0 → row ≡ length identifiers
-        → Meets tree i word (Arrival class bytes) idle (record { refusal = refusal; row = 0 })
-    met-unknown refusal eleven end =
-        let number = ap (λ (r : Refusal). r .number) eleven in
-        record { refusal = eleven ∙ unknown-class end; row = λ none. absurd (omega arith) }
-
-    known-class : row ≢ length identifiers
-        → packet-refused i (getD senders row false) bytes ≡ meeting-refused tree i word (Arrival class bytes) idle
-    unfolding meeting-refused or-else given nothing
-    known-class inside =
-        let same : row-of tree class ≡ row = row-found class ∙ sym found in
-        let lower = row-within class in
-        rw (ne-eqb (row-of tree class) (tree .rows) (λ e. inside (sym same ∙ e ∙ known .rows)), same, known .sending row (omega arith)) refl
-
-    pub met-known : (refusal : Refusal) → refusal ≡ packet-refused i (getD senders row false) bytes → row ≢ length identifiers
-        → Meets tree i word (Arrival class bytes) idle (record { refusal = refusal; row = row })
-    unfolding row-for
-    met-known refusal packet inside =
-        record { refusal = packet ∙ known-class inside; row = λ none. found ∙ sym (row-found class) }
+  pub class-found : (class row : ℕ) → row ≡ place-of class identifiers → Found tree (length identifiers) senders class row
+  class-found class row found =
+      record { rows-are = known .rows; row-is = found ∙ sym (row-found class); sending = known .sending }
 
   -- ── counts ──
 

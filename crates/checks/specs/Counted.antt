@@ -7,7 +7,7 @@ use lib.Dec.{leb, eqb}
 use lib.ListN.{length, getD}
 use Rattle.input.specs.declared.Event.{Event}
 use Rattle.input.specs.declared.Refusal.{Refusal}
-use Rattle.input.specs.Classes.{Table, Tree, tree-of, sends}
+use Rattle.input.specs.Classes.{Table, Tree, tree-of, row-of, sends}
 use Rattle.input.specs.Events.{Events, count, length-word, event}
 use Rattle.input.specs.EventRows.{row-for, no-rows, rows-for}
 use Rattle.input.specs.Refusals.{Room, first, first-below, rows-refused, events-refused, room-refused, meeting-refused}
@@ -46,6 +46,12 @@ pub record Known (tree : Tree) (identifiers : List ℕ) (senders : List Bool) : 
   pub apart : ApartOnAir identifiers
   pub sending : (r : ℕ) → r < length identifiers → getD senders r false ≡ sends tree r
   pub rooted : (r : ℕ) → r < length identifiers → within tree 0 r ≡ true
+
+-- the row of a class, by how many rows there are and which of them send; as many as there are where no row is the class's
+pub record Found (tree : Tree) (rows : ℕ) (senders : List Bool) (class row : ℕ) : Type 0 where
+  pub rows-are : tree .rows ≡ rows
+  pub row-is : row ≡ row-of tree class
+  pub sending : (r : ℕ) → r < rows → getD senders r false ≡ sends tree r
 
 -- an event at place i, with its length word, that meets an idle line or a busy one: what refuses it, or else its row
 pub record Meets (tree : Tree) (i word : ℕ) (e : Event) (idle : Bool) (check : EventCheck) : Type 0 where

@@ -14,7 +14,7 @@ ghost use Rattle.input.specs.Refusals.{events-refused, room-refused, packet-ref
 ghost use Rattle.input.specs.Lent.{table-of, events-of, room-with};
 ghost use Rattle.rules.specs.Promise.{one-arrival, one-finish};
 ghost use Rattle.checks.specs.Filed.{AllFiled};
-ghost use Rattle.checks.specs.Counted.{SlicesOf, ChecksLengths, Known, Meets, MeetsAll, stopping, Checks};
+ghost use Rattle.checks.specs.Counted.{SlicesOf, ChecksLengths, Known, Found, Meets, MeetsAll, stopping, Checks};
 use input::Event;
 use input::EventRows;
 use input::OnAirRows;
@@ -176,7 +176,31 @@ fn packet_refused(i: usize, sending: bool, length: u32) -> Refusal
     tables::none()
 }
 
-// An arrival: 11, 12, 13.
+// A packet for the class in this row, or for no class where that is how many rows there are: 11, 12, 13.
+pub fn check_packet(
+    rows: usize,
+    senders: &RowMarks,
+    i: usize,
+    row: usize,
+    length: u32,
+) -> EventCheck
+    requires { ⌜ (row ≤ rows) × (rows ≤ most-rows) × (i < most-events) ⌝ }
+    ensures { λ r. ⌜ ((tree : Tree) (word class : ℕ) (idle : Bool) → Found tree rows (now (senders .entry)) class row
+        → Meets tree i word (Arrival class length) idle r) ⌝ }
+{
+    if row == rows {
+        return EventCheck {
+            refusal: tables::refusal(11, i, 0),
+            row: 0,
+        };
+    }
+    EventCheck {
+        refusal: packet_refused(i, senders[row], length),
+        row: row as u8,
+    }
+}
+
+// An arrival.
 fn check_arrival(
     identifiers: &[u32],
     rows: &OnAirRows,
@@ -190,20 +214,11 @@ fn check_arrival(
         → Meets tree i word (Arrival class length) idle r) ⌝ }
 {
     let row = row_of(identifiers, rows, class);
-    if row == identifiers.len() {
-        return EventCheck {
-            refusal: tables::refusal(11, i, 0),
-            row: 0,
-        };
-    }
-    EventCheck {
-        refusal: packet_refused(i, senders[row], length),
-        row: row as u8,
-    }
+    check_packet(identifiers.len(), senders, i, row, length)
 }
 
 // A finish: 13, 14.
-fn check_finish(i: usize, word: u32, idle: bool) -> EventCheck
+pub fn check_finish(i: usize, word: u32, idle: bool) -> EventCheck
     requires { ⌜ i < most-events ⌝ }
     ensures { λ r. ⌜ ((tree : Tree) → Meets tree i word Finish idle r) ⌝ }
 {

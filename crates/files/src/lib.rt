@@ -4,7 +4,7 @@ mod handing;
 mod opening;
 mod reading;
 mod tables;
-mod unreadable;
+pub mod unreadable;
 mod whole;
 mod writing;
 
@@ -16,12 +16,20 @@ pub use ending::refused;
 pub use handing::hand_over;
 pub use handing::print;
 pub use handing::print_answer;
+pub use opening::argument_is_input;
 pub use opening::input_twice;
+pub use opening::open;
 pub use opening::twice;
 pub use reading::first;
+pub use reading::judged;
+pub use reading::keep;
 pub use reading::load;
+pub use reading::read_some;
+pub use tables::first_bytes;
 pub use tables::load_table;
+pub use tables::say_fault;
 pub use whole::load_capture;
+pub use whole::load_text;
 
 // How a program ends: it is done, what it was given is refused, or it could not read, write or understand the call.
 pub enum Status {

@@ -25,8 +25,8 @@ pub fn twice() -> Status {
     complain(b"cannot read: standard input is named twice; give one of the two as a file\n")
 }
 
-// A longer argument than the room for it does not stand for standard input.
-fn argument_is_input(argument: usize) -> bool {
+// Whether one argument does. A longer one than the room for it does not.
+pub fn argument_is_input(argument: usize) -> bool {
     let mut name = [0u8; 8];
     let length = os::arg(argument, &mut name);
     is_input(&name[..length])

@@ -32,7 +32,7 @@ fn load_named(name: &[u8], first: &mut [u32], second: &mut [u32]) -> Loaded
 }
 
 // What came of reading a file to its end.
-fn judged(name: &[u8], end: Turn) -> Loaded
+pub fn judged(name: &[u8], end: Turn) -> Loaded
     ensures { λ r. ⌜ r ≡ cond (end .failed) columns.none (columns.judged (end .scan)) ⌝ }
 {
     if end.failed {
@@ -116,7 +116,8 @@ fn read_all(file: i32, start: Scan, first: &mut [u32], second: &mut [u32]) -> Tu
     turn
 }
 
-fn read_some(file: i32, scan: Scan, first: &mut [u32], second: &mut [u32]) -> Turn
+// One read, of at most 65,536 bytes. Where it gives none, no more comes.
+pub fn read_some(file: i32, scan: Scan, first: &mut [u32], second: &mut [u32]) -> Turn
     ensures { λ r. ⌜ columns.Filled (columns.columns-of scan (now (first .entry)) (now (second .entry)))
         (columns.columns-of (r .scan) (now (first .exit)) (now (second .exit))) ⌝ }
 {
@@ -175,7 +176,7 @@ fn row_of(lines: u64) -> usize
 }
 
 // The number at its place, where the column has it.
-fn keep(column: &mut [u32], place: usize, n: u32)
+pub fn keep(column: &mut [u32], place: usize, n: u32)
     ensures { λ r. ⌜ now (column .exit) ≡ set (now (column .entry)) place n ⌝ }
 {
     if place < column.len() {

@@ -74,6 +74,12 @@ fn tell(argument: usize, fault: Refusal, text: &[u8], size: usize) -> bool {
     if !print_answer(answer) {
         return false;
     }
+    say_fault(argument, fault, text, size);
+    true
+}
+
+// Says what to mend, to standard error.
+pub fn say_fault(argument: usize, fault: Refusal, text: &[u8], size: usize) {
     let mut page = [0u8; SENTENCE_BYTES];
     let used = begin_refusal(&mut page, fault.number, argument);
     let used = sentences::fault_sentence(
@@ -81,14 +87,13 @@ fn tell(argument: usize, fault: Refusal, text: &[u8], size: usize) -> bool {
         used,
         fault.number,
         fault.place,
-        held(text, size),
+        first_bytes(text, size),
     );
     hand_over(STDERR_FILENO, &page, used);
-    true
 }
 
 // The first bytes, or all where there are no more.
-fn held(text: &[u8], size: usize) -> &[u8]
+pub fn first_bytes(text: &[u8], size: usize) -> &[u8]
     ensures { λ r. ⌜ now r ≡ take size (now (text .entry)) ⌝ }
 {
     if size < text.len() {

@@ -38,7 +38,7 @@ pub fn cannot_read(name: &[u8], lines: u64, found: Found) {
 }
 
 // What the system's error means, of a file that is opened or read.
-fn why(error: i32) -> Unread {
+pub fn why(error: i32) -> Unread {
     if error == libc::ENOENT {
         return Unread::Missing;
     }
@@ -73,7 +73,7 @@ fn put_cannot_open(page: &mut [u8], name: &[u8], why: Unread) -> usize
     put_byte(page, used, 10)
 }
 
-fn put_why(page: &mut [u8], used: usize, why: Unread) -> usize
+pub fn put_why(page: &mut [u8], used: usize, why: Unread) -> usize
     ensures { λ r. ⌜ Puts (sentences.why why) (now (page .entry)) used (now (page .exit)) r ⌝ }
 {
     match why {

@@ -1,6 +1,6 @@
 -- 40 is given exactly where the text is longer than what is lent for it: no fault within a text has that number, and no refusal of a table.
 -- Assumes nothing.
-use Prim.Native.Nat.{ℕ, zero, suc, _+_, _-_, _*_, _≤_, _<_}
+use Prim.Native.Nat.{ℕ, suc, _+_, _-_, _*_, _≤_, _<_}
 use mathlib.Core.Path.{_≡_, refl, sym, _∙_}
 use mathlib.Core.Bool.{Bool, true, false, cond}
 use mathlib.Core.Logic.{_≢_}
@@ -12,7 +12,8 @@ use lib.ListN.{length, getD, take}
 use borrow.Author.Tests.{lt-ltb, le-ltb}
 use Rattle.input.specs.declared.Refusal.{Refusal}
 use Rattle.input.specs.Classes.{Table}
-use Rattle.input.specs.Refusals.{nothing, given, or-else, first, first-below, doubled, root-refused, class-refused, row-refused, shares-refused, rows-refused, table-refused}
+use Rattle.input.specs.Refusals.{nothing, given, or-else, first, rows-refused, table-refused}
+use Rattle.input.proofs.Numbers.{table-has}
 use Rattle.output.specs.Numbers.{digit-zero}
 use Rattle.forms.specs.declared.Place.{Place}
 use Rattle.forms.specs.declared.Place.the-variants.{Heading, Due, Number, Return, Fault}
@@ -131,33 +132,8 @@ or-not : (a b : Refusal) → Not a → Not b → Not (or-else a b)
 unfolding or-else
 or-not a b left right = one-not (eqb (a .number) 0) b a right left
 
-all-not : (at : ℕ → Refusal) → ((i : ℕ) → Not (at i)) → (n : ℕ) → Not (first-below at n)
-unfolding first-below
-all-not at each zero = nothing-not
-all-not at each (suc i) = or-not (first-below at i) (at i) (all-not at each i) (each i)
-
-doubled-not : (r other : ℕ) → Not (doubled r other)
-unfolding doubled
-doubled-not r other = one-not (ltb other r) (record { number = 5; place = r; second = other }) nothing (λ e. omega arith) nothing-not
-
-row-not : (table : Table) (r : ℕ) → Not (row-refused table r)
-unfolding row-refused root-refused class-refused first
-row-not table zero =
-    or-not (given _ 4 0) _ (given-not _ 4 0 (omega arith))
-    (or-not (given _ 15 0) _ (given-not _ 15 0 (omega arith)) (or-not (given _ 6 0) nothing (given-not _ 6 0 (omega arith)) nothing-not))
-row-not table (suc r) =
-    or-not (given _ 4 (suc r)) _ (given-not _ 4 (suc r) (omega arith))
-    (or-not (given _ 15 (suc r)) _ (given-not _ 15 (suc r) (omega arith))
-    (or-not (doubled (suc r) _) _ (doubled-not (suc r) _)
-    (or-not (given _ 7 (suc r)) _ (given-not _ 7 (suc r) (omega arith))
-    (or-not (given _ 8 (suc r)) _ (given-not _ 8 (suc r) (omega arith))
-    (or-not (given _ 9 (suc r)) nothing (given-not _ 9 (suc r) (omega arith)) nothing-not)))))
-
 pub of-a-table : (table : Table) → Not (table-refused table)
-unfolding table-refused shares-refused
-of-a-table table =
-    or-not (first-below (row-refused table) _) (first-below (shares-refused table) _) (all-not (row-refused table) (row-not table) _)
-    (all-not (shares-refused table) (λ p. given-not _ 10 p (omega arith)) _)
+of-a-table = table-has (λ number. number ≢ 40) (λ e. omega arith) (λ number low high e. omega arith)
 
 -- ── exactly ──
 

@@ -13,7 +13,7 @@ use Rattle.input.specs.Limits.{report-words}
 use Rattle.input.specs.Classes.{Table}
 use Rattle.output.proofs.Numbers.{decimal-length, signed-length}
 use Rattle.forms.specs.Bytes.{table-heading, report-heading, answer-heading, order-heading}
-use Rattle.forms.specs.Texts.{row-line, row-lines, table-text, report-fields, report-line, report-lines, report-text, answer-text, word-lines, order-text, run-text}
+use Rattle.forms.specs.Texts.{row-line, row-lines, table-text, report-fields, report-line, report-lines, report-text, answer-text, word-lines, order-text, run-text, live-line}
 
 -- ── a class table ──
 
@@ -105,3 +105,18 @@ run-room answer identifiers order report lags few fits =
     either (eqb (answer .number) 0) (order-text (take (answer .count) order)) (report-text identifiers report lags) 1480140 (omega arith)
     in
     simp length-append (omega arith)
+
+-- ── an answer of a live box ──
+
+pub live-room : (number place second count packet : ℕ) → length (live-line number place second count packet) ≤ 106
+unfolding live-line
+live-room number place second count packet =
+    simp length-append
+    (omega (
+      arith,
+      decimal-length number,
+      decimal-length place,
+      decimal-length second,
+      decimal-length count,
+      decimal-length packet,
+    ))

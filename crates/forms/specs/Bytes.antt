@@ -25,5 +25,8 @@ report-heading = bytes-of "identifier,bytes,start,finish,virtual,held,lag"
 unfoldable pub answer-heading : List ℕ
 answer-heading = bytes-of "answer,place,second,count"
 
+unfoldable pub live-heading : List ℕ
+live-heading = bytes-of "answer,place,second,count,packet"
+
 unfoldable pub order-heading : List ℕ
 order-heading = bytes-of "order"

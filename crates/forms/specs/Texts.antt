@@ -1,4 +1,4 @@
--- What a class table, a report with its lags, an answer and a whole run are as text: a heading, then a line for each row.
+-- What a class table, a report with its lags, an answer, a whole run and a live box's answer are as text: a heading, then a line for each row.
 use Prim.Native.Nat.{ℕ, zero, suc, _+_, _*_}
 use mathlib.Core.Bool.{cond}
 use mathlib.Core.List.{List, [], _∷_, _++_}
@@ -64,3 +64,13 @@ unfoldable pub run-text : Answer → List ℕ → List ℕ → List ℕ → List
 run-text answer identifiers order report lags =
     answer-text answer
     ++ cond (eqb (answer .number) 0) (order-text (take (answer .count) order) ++ report-text identifiers report lags) []
+
+-- ── an answer of a live box, under the live heading ──
+
+-- a number and a comma
+abbrev pub field : ℕ → List ℕ
+field number = decimal number ++ comma ∷ []
+
+unfoldable pub live-line : ℕ → ℕ → ℕ → ℕ → ℕ → List ℕ
+live-line number place second count packet =
+    field number ++ (field place ++ (field second ++ (field count ++ (decimal packet ++ line-end))))

@@ -8,7 +8,7 @@ ghost use Rattle.input.specs.Lent.{table-of};
 ghost use Rattle.input.specs.Limits.{report-words};
 ghost use Rattle.output.specs.Pages.{Puts};
 ghost use Rattle.output.specs.Numbers.{decimal, signed};
-ghost use Rattle.forms.specs.Bytes.{comma, line-end};
+ghost use Rattle.forms.specs.Bytes.{comma, line-end, live-heading};
 ghost use Rattle.forms.specs.Texts as texts;
 use input::Answer;
 use input::REPORT_WORDS;
@@ -242,4 +242,32 @@ pub fn put_run(
     }
     let used = put_order(page, used, order, answer.count);
     put_report(page, used, identifiers, report, lags)
+}
+
+// The names of a live box's answers.
+pub fn put_live_heading(page: &mut [u8], used: usize) -> usize
+    ensures { λ r. ⌜ Puts (live-heading ++ line-end) (now (page .entry)) used (now (page .exit)) r ⌝ }
+{
+    let used = put_text(page, used, b"answer,place,second,count,packet");
+    put_end(page, used)
+}
+
+// One of its answers.
+pub fn put_live_line(
+    page: &mut [u8],
+    used: usize,
+    number: u32,
+    place: u32,
+    second: u32,
+    count: u32,
+    packet: u32,
+) -> usize
+    ensures { λ r. ⌜ Puts (texts.live-line number place second count packet) (now (page .entry)) used (now (page .exit)) r ⌝ }
+{
+    let used = put_then(page, used, number, 44);
+    let used = put_then(page, used, place, 44);
+    let used = put_then(page, used, second, 44);
+    let used = put_then(page, used, count, 44);
+    let used = put_word(page, used, packet);
+    put_end(page, used)
 }

@@ -18,3 +18,11 @@ pub mod Arriving
 pub mod Finishing
 pub mod Taking
 pub mod Outset
+pub mod Orders
+pub mod Refusing
+pub mod Calls
+pub mod Exactly
+pub mod Reports
+pub mod Following
+pub mod Agreeing
+pub mod Days

@@ -120,7 +120,7 @@ led-from tree limit least name k (packet ∷ later) fits led =
 -- the packets without it
 module _ (tree : Tree) (limit name k : ℕ) where
   -- one step of all that follows: the packet at the front is the one, or stands before it in another class's queue
-  front :
+  pub front :
       (P : Type 0) (least : ℕ) (packet : Held) (later : List Held) → Fitting tree limit least (packet ∷ later) → Led name (queue (packet ∷ later) k)
       → (packet .name ≡ name → packet .class ≡ k → P) → (packet .name ≢ name → packet .class ≢ k → Led name (queue later k) → P) → P
   unfolding Fitting queue Led
@@ -135,7 +135,7 @@ module _ (tree : Tree) (limit name k : ℕ) where
           let before = led-from tree limit (suc (packet .name)) name k later (fits .5) rest in
           further (λ same. omega arith) other rest
 
-  none-led : Led name (queue [] k) → ⊥
+  pub none-led : Led name (queue [] k) → ⊥
   unfolding Led queue
   none-led led = led
 

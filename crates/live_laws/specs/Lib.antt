@@ -2,3 +2,4 @@
 pub mod Holds
 pub mod Narrow
 pub mod Unordered
+pub mod Calls

@@ -1,13 +1,12 @@
 -- An arrival on arrays: what its steps may take for granted, and that the arrays are those of the next box then.
 -- Assumes nothing.
-use Prim.Native.Nat.{ℕ, suc, _+_, _≤_, _<_}
+use Prim.Native.Nat.{ℕ, suc, _+_, _<_}
 use mathlib.Core.Path.{_≡_, refl, sym, ap, _∙_}
 use mathlib.Core.Bool.{Bool, true, false, cond}
 use mathlib.Core.List.{List, _++_}
 use native.Mathlib.Omega.{arith}
 use lib.Dec.{eqb, lit<}
-use lib.ListN.{length, getD}
-use Rattle.input.specs.Limits.{most-rows, most-bytes}
+use Rattle.input.specs.Limits.{most-rows}
 use Rattle.input.specs.Classes.{Tree, depth}
 use Rattle.rules.specs.Box.{Rows, Box, head}
 use Rattle.rules.specs.declared.Why.the-variants.{Arrived}
@@ -94,15 +93,16 @@ module _
       go true = sound .some-rows
       go false = arrives .sender .inside
 
+  -- the way up may begin there, whatever the rows have
   pub front-climbs :
-      (class-of : ℕ → ℕ) (f : Forest) → Listed (tree .rows) (tree .parents) (f .roots) (f .links .right)
-      → Climbs Looking tree class-of front from (depth tree from) f
-  front-climbs class-of f listed =
-      record { sound = sound; inside = from-inside; deep = refl; filed = listed-filed tree class-of front from f listed }
+      (class-of : ℕ → ℕ) (b : Rows) (row : ℕ) (f : Forest) → row ≡ from → Listed (tree .rows) (tree .parents) (f .roots) (f .links .right)
+      → Climbs Looking tree class-of b row (depth tree row) f
+  front-climbs class-of b row f row-is listed =
+      record { sound = sound; inside = rw row-is from-inside; deep = refl; filed = listed-filed tree class-of b row f listed }
 
-  pub front-leeway : Leeway most-climb front
+  front-enough : Leeway most-climb front
   unfolding front-rows
-  front-leeway = go (has-head-of (a .heads) k)
+  front-enough = go (has-head-of (a .heads) k)
     where
       enough : Leeway (most-climb + most-charge) a
       enough = small-leeway (most-climb + most-charge) a (lit< tt) (ready .small)
@@ -111,17 +111,20 @@ module _
       go true = less-leeway (most-climb + most-charge) most-climb a (omega arith) enough
       go false = new-head-leeway most-climb tree a enough Arrived k (suc place) size k (arrives .few-bytes)
 
+  pub front-leeway : (b : Rows) → b ≡ front → Leeway most-climb b
+  front-leeway b is = rw is front-enough
+
   arrival-sent : (b : Rows) → arrival tree place k size box .rows ≡ b → arrival tree place k size box .order ≡ box .order ++ sent-word (eqb (head a 0) 0) (head b 0)
   unfolding arrival
   arrival-sent b rows = ap (λ (xs : List ℕ). box .order ++ xs) (sent-arrived (box .rows) _ ∙ rw (rows, arrays .rows-are))
 
   pub arrived :
-      (class-of : ℕ → ℕ) (b : Rows) (f : Forest) (held′ since′ parent-since′ : List ℕ) (count packet : ℕ)
-      → Settles Looking tree class-of (up (depth tree from) tree Arrived from front) b f
+      (class-of : ℕ → ℕ) (before b : Rows) (row : ℕ) (f : Forest) (held′ since′ parent-since′ : List ℕ) (count packet : ℕ) → row ≡ from → before ≡ front
+      → Settles Looking tree class-of (up (depth tree row) tree Arrived row before) b f
       → Counts (arrival tree place k size box) bytes held′ since′ parent-since′ → Sends (eqb (head a 0) 0) (head b 0) count packet
       → Done (box .order) (arrival tree place k size box) count packet b bytes held′ since′ parent-since′
-  arrived class-of b f held′ since′ parent-since′ count packet settles counts sends =
-      let rows : arrival tree place k size box .rows ≡ b = sym (settles .rows-are ∙ up-arrival) in
+  arrived class-of before b row f held′ since′ parent-since′ count packet row-is before-is settles counts sends =
+      let rows : arrival tree place k size box .rows ≡ b = sym (settles .rows-are ∙ rw (row-is, before-is) up-arrival) in
       record {
         arrays = record { rows-are = rows; counts-are = counts };
         on-line = sent-word (eqb (head a 0) 0) (head b 0);

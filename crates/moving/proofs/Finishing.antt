@@ -1,6 +1,6 @@
 -- The line's finish on arrays: what its steps may take for granted, and that the arrays are those of the next box then.
 -- Assumes nothing.
-use Prim.Native.Nat.{ℕ, _+_, _≤_, _<_}
+use Prim.Native.Nat.{ℕ, _+_, _<_}
 use mathlib.Core.Path.{_≡_, refl, sym, ap, _∙_}
 use mathlib.Core.Bool.{true}
 use mathlib.Core.List.{List, [], _++_}
@@ -50,32 +50,30 @@ module _
   class-few = omega (arith, class-is, line-sends .inside, sound .few-rows)
 
   -- the packet leaves every row on its path, and then its class goes on with the next
-  abbrev gone : Rows
-  gone = leaves tree (head-class a 0) a
+  abbrev onward : ℕ → Rows
+  onward class = renews tree class (left box) (leaves tree class a)
 
-  abbrev onward : Rows
-  onward = renews tree (head-class a 0) (left box) gone
-
-  up-departure : up (depth tree (head-class a 0)) tree Finished (head-class a 0) onward ≡ departure tree box .rows
+  up-departure : up (depth tree (head-class a 0)) tree Finished (head-class a 0) (onward (head-class a 0)) ≡ departure tree box .rows
   unfolding departure goes-on
   up-departure = rw (arrays .rows-are)
 
+  -- the way up may begin there, whatever the rows have
   pub onward-climbs :
-      (class-of : ℕ → ℕ) (f : Forest) → Listed (tree .rows) (tree .parents) (f .roots) (f .links .right)
-      → Climbs Looking tree class-of onward (head-class a 0) (depth tree (head-class a 0)) f
-  onward-climbs class-of f listed =
+      (class-of : ℕ → ℕ) (b : Rows) (class : ℕ) (f : Forest) → class ≡ head-class a 0 → Listed (tree .rows) (tree .parents) (f .roots) (f .links .right)
+      → Climbs Looking tree class-of b class (depth tree class) f
+  onward-climbs class-of b class f is listed =
       record {
         sound = sound;
         inside = omega (arith, class-is, line-sends .inside);
         deep = refl;
-        filed = listed-filed tree class-of onward (head-class a 0) f listed;
+        filed = listed-filed tree class-of b class f listed;
       }
 
-  pub onward-leeway : Leeway most-climb onward
-  onward-leeway =
-      let small = leaves-small tree (head-class a 0) a (ready .small) in
-      let enough = small-leeway (most-climb + most-charge) gone (lit< tt) small in
-      rw (renews-first, finishes .next-is) (renews-leeway tree (head-class a 0) gone most-climb next size (finishes .few-bytes) enough)
+  pub onward-leeway : (b : Rows) (class : ℕ) → b ≡ onward class → Leeway most-climb b
+  onward-leeway b class rows =
+      let gone = leaves tree class a in
+      let enough = small-leeway (most-climb + most-charge) gone (lit< tt) (leaves-small tree class a (ready .small)) in
+      rw (rows, renews-first, finishes .next-is) (renews-leeway tree class gone most-climb next size (finishes .few-bytes) enough)
 
   departure-sent : (b : Rows) → departure tree box .rows ≡ b → departure tree box .order ≡ box .order ++ sent-word true (head b 0)
   unfolding departure
@@ -85,12 +83,12 @@ module _
       ap (λ (xs : List ℕ). box .order ++ xs) (sent-finished (leaves tree (line-class box) (box .rows)) _ none ∙ rw rows)
 
   pub finished :
-      (class-of : ℕ → ℕ) (b : Rows) (f : Forest) (bytes′ held′ : List ℕ) (count packet : ℕ)
-      → Settles Looking tree class-of (up (depth tree (head-class a 0)) tree Finished (head-class a 0) onward) b f
+      (class-of : ℕ → ℕ) (before b : Rows) (class : ℕ) (f : Forest) (bytes′ held′ : List ℕ) (count packet : ℕ) → class ≡ head-class a 0 → before ≡ onward class
+      → Settles Looking tree class-of (up (depth tree class) tree Finished class before) b f
       → Counts (departure tree box) bytes′ held′ since parent-since → Sends true (head b 0) count packet
       → Done (box .order) (departure tree box) count packet b bytes′ held′ since parent-since
-  finished class-of b f bytes′ held′ count packet settles counts sends =
-      let rows : departure tree box .rows ≡ b = sym (settles .rows-are ∙ up-departure) in
+  finished class-of before b class f bytes′ held′ count packet is before-is settles counts sends =
+      let rows : departure tree box .rows ≡ b = sym (settles .rows-are ∙ rw (before-is, is) up-departure) in
       record {
         arrays = record { rows-are = rows; counts-are = counts };
         on-line = sent-word true (head b 0);

@@ -8,7 +8,7 @@ use native.Mathlib.Numerals.{add-one}
 use native.Mathlib.Omega.{arith}
 use lib.Bits.{bitAnd, and-mask}
 use lib.ListN.{length, getD, set, take, drop, List·getD-map}
-use lib.Seq.{sets, length-take-le, take-suc, drop-cons}
+use lib.Seq.{sets, length-take-le, take-suc, take-add, drop-cons, drop-drop}
 use lib.IntN.{ℤ, pos, negsuc}
 use lib.Signed.{ltZ}
 use mir.Syntax.{w64}
@@ -37,13 +37,34 @@ four-at bytes k inside =
       drop-cons bytes (suc (suc (suc k))) 0 (omega arith),
     )
 
+-- a word of any size
+pub word-turn : (size : ℕ) (bytes words now : List ℕ) (i : ℕ) → i < length words → now ≡ over (words-below size bytes i) words
+    → set now i (word-at size bytes i) ≡ over (words-below size bytes (i + 1)) words
+unfolding words-below
+word-turn size bytes words now i room before =
+    rw add-one
+    (over-more (words-below size bytes i) (word-at size bytes i ∷ []) words now i (length-below size bytes i) (omega arith) before)
+
 pub read-turn : (bytes words now : List ℕ) (i : ℕ) → 4 * i + 4 ≤ length bytes → i < length words → now ≡ over (words-below 4 bytes i) words
     → set now i (number-of (getD bytes (4 * i) 0 ∷ getD bytes (4 * i + 1) 0 ∷ getD bytes (4 * i + 2) 0 ∷ getD bytes (4 * i + 3) 0 ∷ []))
     ≡ over (words-below 4 bytes (i + 1)) words
-unfolding words-below word-at
-read-turn bytes words now i inside room before =
-    rw (← four-at bytes (4 * i) inside, add-one)
-    (over-more (words-below 4 bytes i) (word-at 4 bytes i ∷ []) words now i (length-below 4 bytes i) (omega arith) before)
+unfolding word-at
+read-turn bytes words now i inside room before = rw (← four-at bytes (4 * i) inside) (word-turn 4 bytes words now i room before)
+
+-- a word of eight bytes, by its halves
+pub eight-at : (bytes : List ℕ) (k low high : ℕ) → k + 8 ≤ length bytes
+    → low ≡ number-of (getD bytes k 0 ∷ getD bytes (k + 1) 0 ∷ getD bytes (k + 2) 0 ∷ getD bytes (k + 3) 0 ∷ [])
+    → high ≡ number-of (getD bytes (k + 4) 0 ∷ getD bytes (k + 5) 0 ∷ getD bytes (k + 6) 0 ∷ getD bytes (k + 7) 0 ∷ [])
+    → low + 4294967296 * high ≡ number-of (take 8 (drop k bytes))
+unfolding number-of
+eight-at bytes k low high inside one other =
+    let fifth : k + 4 + 1 ≡ k + 5 = omega arith in
+    let sixth : k + 4 + 2 ≡ k + 6 = omega arith in
+    let seventh : k + 4 + 3 ≡ k + 7 = omega arith in
+    let parts : take 8 (drop k bytes) ≡ take 4 (drop k bytes) ++ take 4 (drop (k + 4) bytes) =
+    take-add 4 4 (drop k bytes) ∙ ap (λ (later : List ℕ). take 4 (drop k bytes) ++ take 4 later) (drop-drop 4 k bytes)
+    in
+    rw (parts, four-at bytes k (omega arith), four-at bytes (k + 4) (omega arith), fifth, sixth, seventh) (omega arith)
 
 -- ── writing ──
 

@@ -3,7 +3,7 @@
 ghost use mathlib.Core.Path.{_≡_};
 ghost use mathlib.Core.List.{[], _∷_};
 ghost use Prim.Native.Nat.{_+_, _*_, _/_, _≤_};
-ghost use lib.ListN.{length, take, replicate};
+ghost use lib.ListN.{length, take, drop, replicate};
 ghost use lib.Seq.{sets};
 ghost use mir.Syntax.{w64};
 ghost use mir.Val.{ofZ};
@@ -27,6 +27,29 @@ pub fn read_words(bytes: &[u8], words: &mut [u32])
     while i < n {
         let at = 4 * i;
         words[i] = joined(bytes[at], bytes[at + 1], bytes[at + 2], bytes[at + 3]);
+        i += 1;
+    }
+}
+
+// The longer word that eight bytes from a place on are.
+fn long_at(bytes: &[u8], at: usize) -> u64
+    requires { ⌜ at + 8 ≤ length (now bytes) ⌝ }
+    ensures { λ r. ⌜ r ≡ number-of (take 8 (drop at (now (bytes .entry)))) ⌝ }
+{
+    let low = joined(bytes[at], bytes[at + 1], bytes[at + 2], bytes[at + 3]);
+    let high = joined(bytes[at + 4], bytes[at + 5], bytes[at + 6], bytes[at + 7]);
+    low as u64 + 4294967296 * (high as u64)
+}
+
+// The same for words of eight bytes.
+pub fn read_longs(bytes: &[u8], words: &mut [u64])
+    requires { ⌜ length (now bytes) / 8 ≤ length (now words) ⌝ }
+    ensures { λ _. ⌜ now (words .exit) ≡ over (words-of 8 (now (bytes .entry))) (now (words .entry)) ⌝ }
+{
+    let n = bytes.len() / 8;
+    let mut i = 0;
+    while i < n {
+        words[i] = long_at(bytes, 8 * i);
         i += 1;
     }
 }

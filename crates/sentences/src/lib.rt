@@ -1,16 +1,19 @@
 // What is said of an answer: a refusal, or the fault of a table's text, as one sentence for a person, with the file that it is in.
 mod children;
+mod events;
 mod faults;
 mod naming;
 mod refusals;
 mod templates;
 
+pub use events::put_not_sending;
+pub use events::put_packet_bytes;
+pub use events::put_wrong_event;
 pub use faults::fault_sentence;
 use input::MOST_ROWS;
 pub use naming::is_input;
 pub use naming::put_name;
 pub use naming::put_refused;
-pub use refusals::put_packet_bytes;
 pub use refusals::sentence;
 pub use refusals::table_sentence;
 pub use templates::fill;

@@ -5,12 +5,12 @@ ghost use Rattle.sentences.specs.Named as named;
 use crate::children::children_share;
 use crate::children::depth_of;
 use crate::children::put_children;
+use crate::events::put_not_sending;
+use crate::events::put_wrong_event;
 use crate::templates::fill;
 use input::Answer;
-use input::LEAST_BYTES;
 use input::LEAST_ROWS;
 use input::LEAST_SHARE;
-use input::MOST_BYTES;
 use input::MOST_DEPTH;
 use input::MOST_EVENTS;
 use input::MOST_IDENTIFIER;
@@ -259,26 +259,18 @@ fn of_event<'a>(
     classes: &'a [u32],
     lengths: &'a [u32],
 ) -> usize {
-    let number = answer.number;
     let event = answer.place;
     let class = word(classes, event);
-    match number {
-        11 => fill(
-            page,
-            used,
-            b"event # (line #) is for class #, which no row has; name a class of the table.\n",
-            &[long(event), line_of(event), long(class)],
-        ),
-        12 => not_sending(page, used, event, class, row_with(identifiers, class)),
-        13 => of_length(page, used, event, class, word(lengths, event)),
-        14 => fill(
-            page,
-            used,
-            b"event # (line #) is a finish while the line is idle; take it out or put an arrival before it.\n",
-            &[long(event), line_of(event)],
-        ),
-        _ => used,
+    let used = fill(
+        page,
+        used,
+        b"event # (line #)",
+        &[long(event), line_of(event)],
+    );
+    if answer.number == 12 {
+        return of_row(page, used, class, row_with(identifiers, class));
     }
+    put_wrong_event(page, used, answer.number, class, word(lengths, event))
 }
 
 // The row with this identifier.
@@ -293,61 +285,14 @@ fn row_with(identifiers: &[u32], identifier: u32) -> u32
 }
 
 // 12, of an event for the class of this row.
-fn not_sending(page: &mut [u8], used: usize, event: u32, class: u32, row: u32) -> usize {
-    if row == 0 {
-        return fill(
-            page,
-            used,
-            b"event # (line #) is for class #, row 0 (line 2), which is the line itself; name a class with no class below it.\n",
-            &[long(event), line_of(event), long(class)],
-        );
-    }
-    fill(
+fn of_row(page: &mut [u8], used: usize, class: u32, row: u32) -> usize {
+    let used = fill(
         page,
         used,
-        b"event # (line #) is for class #, row # (line #), which has classes below it; name a class with no class below it.\n",
-        &[
-            long(event),
-            line_of(event),
-            long(class),
-            long(row),
-            line_of(row),
-        ],
-    )
-}
-
-fn of_length(page: &mut [u8], used: usize, event: u32, class: u32, length: u32) -> usize {
-    if class == 0 {
-        return fill(
-            page,
-            used,
-            b"event # (line #) is a finish with length #; a finish has length 0.\n",
-            &[long(event), line_of(event), long(length)],
-        );
-    }
-    fill(
-        page,
-        used,
-        b"event # (line #), for class #, has length #; a packet has # to # bytes.\n",
-        &[
-            long(event),
-            line_of(event),
-            long(class),
-            long(length),
-            LEAST_BYTES as u64,
-            MOST_BYTES as u64,
-        ],
-    )
-}
-
-// How many bytes a packet may have.
-pub fn put_packet_bytes(page: &mut [u8], used: usize) -> usize {
-    fill(
-        page,
-        used,
-        b"a packet has # to # bytes",
-        &[LEAST_BYTES as u64, MOST_BYTES as u64],
-    )
+        b" is for class #, row # (line #)",
+        &[long(class), long(row), line_of(row)],
+    );
+    put_not_sending(page, used, row == 0)
 }
 
 // A file has its heading in line 1, so place 0 is in line 2.

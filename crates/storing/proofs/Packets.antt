@@ -10,13 +10,15 @@ use lib.Dec.{eqb}
 use borrow.Author.Tests.{eq-eqb, ne-eqb, eqb-true}
 use lib.ListN.{length, getD, set, take, drop, length-append, length-set, length-take, length-drop, drop-of-length-le}
 use lib.Seq.{sets, length-sets, take-suc, take-all, length-take-le, drop-cons, drop-append-le, slice-empty}
+use Rattle.input.specs.Limits.{most-bytes}
+use Rattle.hierarchy.specs.Next.{next-of}
 use Rattle.live_rules.specs.Layout.{words-at, classes-at, lengths-at, names-at, state-words}
 use Rattle.live_rules.specs.Limits.{most-held}
 use Rattle.live_rules.specs.State.{Held, packets-at, packets-stored, queue}
 use Rattle.live_rules.specs.Taking.{without}
 use Rattle.live_rules.proofs.Stretches.{words-length, words-get, words-fewer, words-late, sets-same, sets-snoc, get-late}
 use Rattle.live_rules.proofs.Packets.{packet-in, packets-length, packets-get, class-in, length-in, name-in, classes-listed, lengths-listed, names-listed}
-use Rattle.storing.specs.Packets.{place-of, left-out, next-of, Worded}
+use Rattle.storing.specs.Packets.{place-of, left-out, Worded}
 
 -- ── one list without a word: the gap is closed word by word ──
 
@@ -258,7 +260,7 @@ module _ (m : ℕ) (words : List ℕ) where
     next-none i past = rw (packets-past i past)
 
 worded-get :
-    (ps : List Held) (i : ℕ) (d : Held) → i < length ps → Worded ps → (getD ps i d .name + 1 < 2 ^ 32) × (getD ps i d .length < 2 ^ 32)
+    (ps : List Held) (i : ℕ) (d : Held) → i < length ps → Worded ps → (getD ps i d .name + 1 < 2 ^ 32) × (getD ps i d .length ≤ most-bytes)
 unfolding Worded
 worded-get [] i d inside worded = absurd (omega arith)
 worded-get (p ∷ ps) zero d inside worded = (worded .0, worded .1)
@@ -266,7 +268,7 @@ worded-get (p ∷ ps) (suc i) d inside worded = worded-get ps i d (omega arith) 
 
 pub worded-in :
     (m : ℕ) (words : List ℕ) (i : ℕ) → i < m → Worded (packets-at m words)
-    → (getD words (names-at + i) 0 + 1 < 2 ^ 32) × (getD words (lengths-at + i) 0 < 2 ^ 32)
+    → (getD words (names-at + i) 0 + 1 < 2 ^ 32) × (getD words (lengths-at + i) 0 ≤ most-bytes)
 worded-in m words i within worded =
     let long = packets-length m words in
     let d : Held = record { class = 0; length = 0; name = 0 } in

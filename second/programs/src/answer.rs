@@ -9,6 +9,11 @@ pub struct Answer {
 }
 
 impl Answer {
+    /// As they stand in a line.
+    pub(crate) fn numbers(&self) -> [u32; 4] {
+        [self.number, self.place, self.second, self.count]
+    }
+
     /// All is accepted; the count is of packets put on the line, of rows read or bytes written.
     pub(crate) fn done(count: usize) -> Answer {
         Answer {

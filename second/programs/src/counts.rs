@@ -8,9 +8,9 @@ pub struct RowCounts {
     pub bytes: u64,
     pub held: u64,
     /// Bytes when the row last began to hold packets.
-    bytes_then: u64,
+    pub bytes_then: u64,
     /// The parent's bytes at that moment.
-    parent_bytes_then: u64,
+    pub parent_bytes_then: u64,
 }
 
 pub struct Counts<'a> {
@@ -20,10 +20,12 @@ pub struct Counts<'a> {
 
 impl<'a> Counts<'a> {
     pub fn new(table: &'a Table) -> Counts<'a> {
-        Counts {
-            table,
-            rows: vec![RowCounts::default(); table.rows.len()],
-        }
+        Counts::of(table, vec![RowCounts::default(); table.rows.len()])
+    }
+
+    /// Counts of rows that stand like this.
+    pub fn of(table: &'a Table, rows: Vec<RowCounts>) -> Counts<'a> {
+        Counts { table, rows }
     }
 
     /// A packet has arrived for the class in `row`.
@@ -59,15 +61,13 @@ impl<'a> Counts<'a> {
             - i64::from(shares::WHOLE) * signed(own)
     }
 
+    /// The root counts as its own parent.
     fn parent_bytes(&self, row: usize) -> u64 {
-        match self.table.rows[row].parent {
-            Some(parent) => self.rows[parent].bytes,
-            None => 0,
-        }
+        self.rows[self.table.rows[row].parent.unwrap_or(row)].bytes
     }
 }
 
-/// Byte counts are at most MOST_EVENTS * MOST_BYTES, so they always fit, also times 840.
+/// Byte counts are at most MOST_ACCEPTED * MOST_BYTES, so they always fit, also times 840.
 fn signed(bytes: u64) -> i64 {
     i64::try_from(bytes).unwrap_or(i64::MAX)
 }

@@ -1,8 +1,9 @@
-//! The files that a call names, of which one may be standard input, and why one cannot be read.
+//! The files that a call names, of which one may be standard input, and why one cannot be read or
+//! written.
 
 use std::ffi::OsStr;
-use std::fs::File;
-use std::io::{self, Read};
+use std::fs::{self, File};
+use std::io::{self, ErrorKind, Read, Write};
 use std::os::fd::AsFd;
 
 use crate::response::{error_number, Response};
@@ -12,7 +13,10 @@ const ENOENT: i32 = 2;
 const EACCES: i32 = 13;
 const ENOTDIR: i32 = 20;
 const EISDIR: i32 = 21;
+const ENOSPC: i32 = 28;
+const EROFS: i32 = 30;
 const ENAMETOOLONG: i32 = 36;
+const EDQUOT: i32 = 122;
 
 /// An argument that names a file; `-` is standard input.
 #[derive(Clone, Copy)]
@@ -35,7 +39,7 @@ impl<'a> Source<'a> {
         Ok(both)
     }
 
-    fn is_standard_input(&self) -> bool {
+    pub fn is_standard_input(&self) -> bool {
         self.argument == "-"
     }
 
@@ -51,19 +55,76 @@ impl<'a> Source<'a> {
     pub fn read(&self, most: usize) -> Result<Vec<u8>, Response> {
         let limit = (most as u64).saturating_add(1);
         let mut bytes = Vec::new();
-        self.open()
-            .and_then(|file| file.take(limit).read_to_end(&mut bytes))
-            .map_err(|error| Response::cannot_read(self.name(), &unreadable(&error)))?;
+        let read = self.open()?.take(limit).read_to_end(&mut bytes);
+        read.map_err(|error| self.unread(&error))?;
         Ok(bytes)
     }
 
     /// Standard input too as a file: `Stdin` would say that it is empty where it cannot be read.
-    fn open(&self) -> io::Result<File> {
-        match self.is_standard_input() {
+    pub fn open(&self) -> Result<File, Response> {
+        let opened = match self.is_standard_input() {
             true => io::stdin().as_fd().try_clone_to_owned().map(File::from),
             false => File::open(self.argument),
+        };
+        opened.map_err(|error| self.unread(&error))
+    }
+
+    /// What has come of the open file, up to so many bytes; none where it ends.
+    pub fn read_piece(&self, mut file: &File, most: usize) -> Result<Vec<u8>, Response> {
+        let mut piece = vec![0; most];
+        loop {
+            match file.read(&mut piece) {
+                Ok(bytes) => {
+                    piece.truncate(bytes);
+                    return Ok(piece);
+                }
+                Err(error) if error.kind() == ErrorKind::Interrupted => {}
+                Err(error) => return Err(self.unread(&error)),
+            }
         }
     }
+
+    /// Opening or reading it met this error.
+    fn unread(&self, error: &io::Error) -> Response {
+        Response::cannot_read(self.name(), &unreadable(error))
+    }
+}
+
+/// Writes a file whole: to one beside it, which then takes its name. Where that fails the file stays
+/// as it was, and nothing beside it.
+pub fn replace(name: &OsStr, bytes: &[u8]) -> Result<(), Response> {
+    let mut beside = name.to_os_string();
+    beside.push(".new");
+    let unwritten = |error: io::Error| Response::cannot_write(name, &unwritable(&error));
+    let file = File::create(&beside).map_err(unwritten)?;
+    let written = write_to_disk(file, bytes).and_then(|()| fs::rename(&beside, name));
+    written.map_err(|error| {
+        // Where it cannot be removed there is nothing better to be said.
+        let _ = fs::remove_file(&beside);
+        unwritten(error)
+    })
+}
+
+fn write_to_disk(mut file: File, bytes: &[u8]) -> io::Result<()> {
+    file.write_all(bytes)?;
+    file.sync_all()
+}
+
+/// What follows a file's name where writing it met this error.
+fn unwritable(error: &io::Error) -> String {
+    let why = match error_number(error) {
+        ENOSPC | EDQUOT => "the disk is full",
+        EACCES | EPERM | EROFS => "this user may not write it",
+        ENOENT | ENOTDIR => "there is no such folder",
+        EISDIR => "it is a folder",
+        ENAMETOOLONG => "its name is too long",
+        number => return system_refuses(number),
+    };
+    format!(": {why}")
+}
+
+fn system_refuses(number: i32) -> String {
+    format!(": the system refuses it with error {number}")
 }
 
 /// What follows a file's name where opening or reading it met this error.
@@ -73,7 +134,7 @@ fn unreadable(error: &io::Error) -> String {
         EISDIR => "it is a folder",
         EACCES | EPERM => "this user may not read it",
         ENAMETOOLONG => "its name is too long",
-        number => return format!(": the system refuses it with error {number}"),
+        number => return system_refuses(number),
     };
     format!(": {why}")
 }
@@ -107,6 +168,27 @@ mod tests {
         for (number, sentence) in sentences {
             let error = io::Error::from_raw_os_error(number);
             assert_eq!(unreadable(&error), sentence);
+        }
+    }
+
+    #[test]
+    fn a_file_that_cannot_be_written_has_a_sentence_by_error_number() {
+        let sentences = [
+            (1, ": this user may not write it"),
+            (2, ": there is no such folder"),
+            (5, ": the system refuses it with error 5"),
+            (13, ": this user may not write it"),
+            (20, ": there is no such folder"),
+            (21, ": it is a folder"),
+            (27, ": the system refuses it with error 27"),
+            (28, ": the disk is full"),
+            (30, ": this user may not write it"),
+            (36, ": its name is too long"),
+            (122, ": the disk is full"),
+        ];
+        for (number, sentence) in sentences {
+            let error = io::Error::from_raw_os_error(number);
+            assert_eq!(unwritable(&error), sentence);
         }
     }
 

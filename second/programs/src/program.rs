@@ -5,7 +5,7 @@ use std::ffi::{OsStr, OsString};
 use crate::answer::Answer;
 use crate::csv::{self, Columns};
 use crate::files::{at_fault, Source};
-use crate::print::{answers_text, results_text};
+use crate::print::{answers_text, results_text, Form};
 use crate::run::run;
 use crate::sentences::{sentence, table_sentence};
 use crate::slices::{EventSlices, Room, TableSlices};
@@ -28,7 +28,7 @@ fn read_and_replay(arguments: &[OsString]) -> Result<Response, Response> {
         return Err(Response::misunderstood(wanted));
     };
     let [table_file, event_file] = Source::both(table, events)?;
-    let columns = read_table(table_file)?;
+    let columns = read_table(Form::Run, table_file)?;
     let [classes, lengths] = read_events(event_file)?;
     let table = columns.slices();
     let events = EventSlices {
@@ -38,33 +38,41 @@ fn read_and_replay(arguments: &[OsString]) -> Result<Response, Response> {
     let results = replay(table, events).map_err(|answer| {
         let file = at_fault(answer.number, table_file, event_file);
         let rest = sentence(&answer, &table, &events).unwrap_or_default();
-        Response::refused(file, &[(answer, rest)])
+        Response::refused(Form::Run, file, &[(answer, rest)])
     })?;
     Ok(Response::done(results))
 }
 
 /// The table in a file, or what is said of its text.
-pub(crate) fn read_table(file: Source) -> Result<Columns, Response> {
+pub(crate) fn read_table(form: Form, file: Source) -> Result<Columns, Response> {
     let bytes = file.read(MOST_TEXT)?;
     let lent = &bytes[..bytes.len().min(MOST_TEXT)];
     csv::read(lent, bytes.len()).map_err(|fault| {
         let refusal = (fault.answer(), fault.sentence(&bytes));
-        Response::refused(Some(file.name()), &[refusal])
+        Response::refused(form, Some(file.name()), &[refusal])
     })
 }
 
 /// What is said of a table that is refused for these reasons.
-pub(crate) fn refused_table(file: Source, table: &TableSlices, answers: &[Answer]) -> Response {
+pub(crate) fn refused_table(
+    form: Form,
+    file: Source,
+    table: &TableSlices,
+    answers: &[Answer],
+) -> Response {
     let rest = |answer: &Answer| table_sentence(answer, table).unwrap_or_default();
     let refusals: Vec<_> = answers.iter().map(|a| (*a, rest(a))).collect();
-    Response::refused(Some(file.name()), &refusals)
+    Response::refused(form, Some(file.name()), &refusals)
 }
 
 fn read_events(file: Source) -> Result<[Vec<u32>; 2], Response> {
-    text::read_events(&file.read(usize::MAX)?).map_err(|fault| {
-        let rest = format!(", line {}: {}", fault.line, fault.what);
-        Response::cannot_read(file.name(), &rest)
-    })
+    text::read_events(&file.read(usize::MAX)?).map_err(|fault| faulty_events(file, &fault))
+}
+
+/// What is said of a list that cannot be read.
+pub(crate) fn faulty_events(file: Source, fault: &text::Fault) -> Response {
+    let rest = format!(", line {}: {}", fault.line, fault.what);
+    Response::cannot_read(file.name(), &rest)
 }
 
 /// The number in the argument of this name, or what is said of it.
@@ -82,5 +90,5 @@ fn replay(table: TableSlices, events: EventSlices) -> Result<String, Answer> {
     }
     let order = &room.order[..answer.count as usize];
     let results = results_text(order, table.identifiers, &room.report, &room.lags);
-    Ok(answers_text([&answer]) + &results)
+    Ok(answers_text(Form::Run, [&answer]) + &results)
 }

@@ -5,6 +5,7 @@ use std::ffi::{OsStr, OsString};
 use crate::answer::number_of;
 use crate::events::MOST_BYTES;
 use crate::files::Source;
+use crate::print::Form;
 use crate::program::{read_argument, read_table, refused_table, Response};
 use crate::run::{check_rows, MOST_EVENTS};
 use crate::shares::is_exact;
@@ -53,11 +54,11 @@ fn read_and_work(arguments: &[OsString]) -> Result<Response, Response> {
         packets: read_optional("PACKETS", rest.get(1), number_of(MOST_EVENTS))?,
     };
     let file = Source::new(file);
-    let columns = read_table(file)?;
+    let columns = read_table(Form::Run, file)?;
     let slices = columns.slices();
     let table = check_rows(&slices)
         .and_then(|()| Table::read(&slices))
-        .map_err(|answer| refused_table(file, &slices, &[answer]))?;
+        .map_err(|answer| refused_table(Form::Run, file, &slices, &[answer]))?;
     Ok(Response::done(sheet_text(&table, &numbers)))
 }
 

@@ -1,34 +1,40 @@
-//! The results of an accepted run, written into the lent slices.
+//! The results of an accepted run, and what the rows of a box have come to, written into the lent
+//! slices.
 
-use crate::counts::Counts;
+use crate::scheduler::Scheduler;
 use crate::slices::Lent;
-use crate::tree::Tree;
 
 /// Numbers a row has in the report.
 pub const REPORT_WIDTH: usize = 5;
 
-/// Writes the results; the slices have been found long enough before.
-pub fn write(tree: &Tree, counts: &Counts, events: usize, lent: &mut Lent) {
-    for (word, place) in lent.order.iter_mut().zip(&tree.order) {
-        *word = *place;
+/// Writes the results of so many events; the slices have been found long enough before.
+pub fn write(scheduler: &Scheduler, order: impl IntoIterator<Item = u32>, lent: &mut Lent) {
+    for (word, place) in lent.order.iter_mut().zip(order) {
+        *word = place;
     }
-    for row in 0..tree.rows.len() {
-        let first = row * REPORT_WIDTH;
-        lent.report[first..first + REPORT_WIDTH].copy_from_slice(&report_row(tree, counts, row));
-        lent.lags[row] = counts.lag(row);
+    write_rows(scheduler, lent.report, lent.lags);
+    lent.working[..scheduler.events as usize].fill(0);
+}
+
+/// Writes the rows' part of the report, and their lags.
+pub fn write_rows(scheduler: &Scheduler, report: &mut [u64], lags: &mut [i64]) {
+    let rows = report.chunks_exact_mut(REPORT_WIDTH).zip(lags).enumerate();
+    for (row, (numbers, lag)) in rows.take(scheduler.table.rows.len()) {
+        numbers.copy_from_slice(&report_row(scheduler, row));
+        *lag = scheduler.counts.lag(row);
     }
-    lent.working[..events].fill(0);
 }
 
 /// A sending class never chooses and the root is never charged, so the numbers
 /// that are to be 0 for them are 0 in the state.
-fn report_row(tree: &Tree, counts: &Counts, row: usize) -> [u64; REPORT_WIDTH] {
-    let state = &tree.rows[row];
+fn report_row(scheduler: &Scheduler, row: usize) -> [u64; REPORT_WIDTH] {
+    let state = &scheduler.tree.rows[row];
+    let counts = &scheduler.counts.rows[row];
     [
-        counts.rows[row].bytes,
+        counts.bytes,
         state.start,
         state.finish,
         state.virtual_time,
-        counts.rows[row].held,
+        counts.held,
     ]
 }

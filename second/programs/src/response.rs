@@ -8,7 +8,7 @@ use std::os::fd::AsFd;
 use std::process::ExitCode;
 
 use crate::answer::Answer;
-use crate::print::answers_text;
+use crate::print::{answers_text, Form};
 
 /// The program has done what it was called for.
 pub const DONE: u8 = 0;
@@ -40,10 +40,15 @@ impl Response {
 
     /// The answers, and for each a sentence that ends as it is given here. All of them name the
     /// file, if one is at fault.
-    pub(crate) fn refused(file: Option<&OsStr>, refusals: &[(Answer, String)]) -> Response {
+    pub(crate) fn refused(
+        form: Form,
+        file: Option<&OsStr>,
+        refusals: &[(Answer, String)],
+    ) -> Response {
         let sentence = |(answer, rest): &(Answer, String)| sentence(answer.number, file, rest);
+        let answers = refusals.iter().map(|(answer, _)| answer);
         Response {
-            output: answers_text(refusals.iter().map(|(answer, _)| answer)).into_bytes(),
+            output: answers_text(form, answers).into_bytes(),
             error: refusals.iter().flat_map(sentence).collect(),
             status: REFUSED,
         }
@@ -60,8 +65,23 @@ impl Response {
         Response::failed([b"cannot read ", name, rest.as_bytes(), b"\n"].concat())
     }
 
+    /// A file of this name is at fault; the rest follows the name.
+    pub(crate) fn cannot_write(name: &OsStr, rest: &str) -> Response {
+        let name = name.as_encoded_bytes();
+        Response::failed([b"cannot write ", name, rest.as_bytes(), b"\n"].concat())
+    }
+
+    /// All that there is to say has been handed over.
+    pub(crate) fn ended(status: u8) -> Response {
+        Response {
+            output: Vec::new(),
+            error: Vec::new(),
+            status,
+        }
+    }
+
     /// The results met this error on their way out.
-    fn cannot_write(error: &io::Error) -> Response {
+    fn unwritten(error: &io::Error) -> Response {
         let why = match error_number(error) {
             // A reader that left, as `head` does, misses nothing.
             EPIPE => return Response::failed(Vec::new()),
@@ -82,7 +102,7 @@ impl Response {
 }
 
 /// A file's name is printed as it was given, so this is bytes and not a string.
-fn sentence(number: u32, file: Option<&OsStr>, rest: &str) -> Vec<u8> {
+pub(crate) fn sentence(number: u32, file: Option<&OsStr>, rest: &str) -> Vec<u8> {
     let mut line = format!("refused {number}").into_bytes();
     if let Some(file) = file {
         line.extend_from_slice(b" in ");
@@ -100,27 +120,30 @@ pub(crate) fn error_number(error: &io::Error) -> i32 {
 /// Prints what a program answers to the arguments it was started with, and ends with its status.
 pub fn answer(respond: fn(&[OsString]) -> Response) -> ExitCode {
     let arguments: Vec<OsString> = env::args_os().skip(1).collect();
-    let response = handed_over(respond(&arguments));
-    // Where a sentence cannot be written there is nobody left to be told.
-    let _ = io::stderr().write_all(&response.error);
+    let response = respond(&arguments);
+    let response = match hand_over(&response.output) {
+        Ok(()) => response,
+        Err(unwritten) => unwritten,
+    };
+    say(&response.error);
     ExitCode::from(response.status)
 }
 
-/// The response itself where its results could be written.
-fn handed_over(response: Response) -> Response {
-    match write_results(&response.output) {
-        Ok(()) => response,
-        Err(error) => Response::cannot_write(&error),
-    }
-}
-
-/// They are written as to a file: `Stdout` would keep errors for later, and EBADF for itself.
-fn write_results(results: &[u8]) -> io::Result<()> {
+/// Writes results; the error is what is said where they cannot be written. They are written as to a
+/// file: `Stdout` would keep errors for later, and EBADF for itself.
+pub(crate) fn hand_over(results: &[u8]) -> Result<(), Response> {
     if results.is_empty() {
         return Ok(());
     }
-    let output = io::stdout().as_fd().try_clone_to_owned()?;
-    File::from(output).write_all(results)
+    let output = io::stdout().as_fd().try_clone_to_owned();
+    output
+        .and_then(|output| File::from(output).write_all(results))
+        .map_err(|error| Response::unwritten(&error))
+}
+
+/// Writes sentences. Where they cannot be written there is nobody left to be told.
+pub(crate) fn say(sentences: &[u8]) {
+    let _ = io::stderr().write_all(sentences);
 }
 
 #[cfg(test)]
@@ -143,7 +166,7 @@ mod tests {
             ),
         ];
         for (number, sentence) in sentences {
-            let response = Response::cannot_write(&io::Error::from_raw_os_error(number));
+            let response = Response::unwritten(&io::Error::from_raw_os_error(number));
             assert_eq!(response, Response::failed(sentence.as_bytes().to_vec()));
         }
     }

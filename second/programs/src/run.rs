@@ -1,10 +1,9 @@
-//! One run: the checks in their order, the events one by one, then the results.
+//! One run: the checks in their order, the events one after another, then the results.
 
-use crate::answer::{number_of, Answer};
-use crate::counts::Counts;
-use crate::events::{decode, Event};
+use crate::answer::Answer;
 use crate::inside::{Choices, Inside};
 use crate::report::{self, REPORT_WIDTH};
+use crate::scheduler::Scheduler;
 use crate::slices::{EventSlices, Lent, Room, TableSlices};
 use crate::table::Table;
 use crate::tree::{Packet, Tree};
@@ -23,11 +22,11 @@ pub fn run(table: TableSlices, events: EventSlices, mut lent: Lent) -> Answer {
 fn replay(slices: &TableSlices, events: &EventSlices, lent: &mut Lent) -> Result<Answer, Answer> {
     check_lengths(slices, events, lent)?;
     let table = Table::read(slices)?;
-    let mut tree = Tree::new(&table);
-    let mut counts = Counts::new(&table);
-    apply_all(events, &table, &mut tree, &mut counts)?;
-    report::write(&tree, &counts, events.classes.len(), lent);
-    Ok(Answer::done(tree.order.len()))
+    let mut scheduler = Scheduler::new(&table);
+    let order = take_all(events, &mut scheduler)?;
+    let count = order.len();
+    report::write(&scheduler, order, lent);
+    Ok(Answer::done(count))
 }
 
 /// The same run with its choices counted, and no results; or its refusal.
@@ -36,10 +35,14 @@ pub fn inside(slices: TableSlices, events: EventSlices) -> Result<Inside, Answer
     check_lengths(&slices, &events, &room.lend())?;
     let table = Table::read(&slices)?;
     let mut choices = Choices::default();
-    let mut tree = Tree::counting(&table, &mut choices);
-    apply_all(&events, &table, &mut tree, &mut Counts::new(&table))?;
+    let mut scheduler = Scheduler {
+        tree: Tree::counting(&table, &mut choices),
+        ..Scheduler::new(&table)
+    };
+    take_all(&events, &mut scheduler)?;
     let place = |packet: Packet| packet.place;
-    let heads = tree.rows.iter().map(|row| row.head.map(place)).collect();
+    let rows = scheduler.tree.rows.iter();
+    let heads = rows.map(|row| row.head.map(place)).collect();
     Ok(Inside { choices, heads })
 }
 
@@ -80,40 +83,14 @@ pub(crate) fn check_row_count(rows: usize) -> Result<(), Answer> {
     }
 }
 
-/// Takes the events one after another, up to the first that is refused.
-fn apply_all(
-    events: &EventSlices,
-    table: &Table,
-    tree: &mut Tree,
-    counts: &mut Counts,
-) -> Result<(), Answer> {
+/// Takes the events one after another, up to the first that is refused. Gives the packets in the
+/// order in which they went on the line.
+fn take_all(events: &EventSlices, scheduler: &mut Scheduler) -> Result<Vec<u32>, Answer> {
+    let mut order = Vec::new();
     for (place, (class, length)) in events.classes.iter().zip(events.lengths).enumerate() {
-        let event = decode(table, *class, *length).map_err(|n| Answer::refused(n, place))?;
-        apply(event, place, tree, counts)?;
+        let event = scheduler.meet(*class, *length);
+        let event = event.map_err(|number| Answer::refused(number, place))?;
+        order.extend(scheduler.take(event));
     }
-    Ok(())
-}
-
-/// Takes one event, or gives refusal 14.
-fn apply(event: Event, place: usize, tree: &mut Tree, counts: &mut Counts) -> Result<(), Answer> {
-    match event {
-        Event::Arrival { row, length } => {
-            let place = number_of(place);
-            arrive(Packet { place, row, length }, tree, counts);
-            Ok(())
-        }
-        Event::Finish => finish(tree, counts).ok_or(Answer::refused(14, place)),
-    }
-}
-
-pub(crate) fn arrive(packet: Packet, tree: &mut Tree, counts: &mut Counts) {
-    counts.arrived(packet.row);
-    tree.arrive(packet);
-}
-
-/// Nothing if the line is idle.
-pub(crate) fn finish(tree: &mut Tree, counts: &mut Counts) -> Option<()> {
-    let packet = tree.line_finished()?;
-    counts.finished(packet.row, packet.length);
-    Some(())
+    Ok(order)
 }

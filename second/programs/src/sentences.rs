@@ -9,17 +9,57 @@ use crate::table::Table;
 /// file; none for an accepted run.
 pub fn sentence(answer: &Answer, table: &TableSlices, events: &EventSlices) -> Option<String> {
     let place = answer.place as usize;
-    Some(match answer.number {
-        2 => list(events),
-        11 => no_class(events, place),
-        12 => not_sending(table, events, place),
-        13 => length(events, place),
-        14 => format!(
-            "{} is a finish while the line is idle; take it out or put an arrival before it.",
-            event_name(place)
-        ),
-        _ => return table_sentence(answer, table),
-    })
+    match answer.number {
+        2 => Some(list(events)),
+        11..=14 => {
+            let class = word(events.classes, place);
+            let event = RefusedEvent {
+                name: event_name(place),
+                class,
+                length: word(events.lengths, place),
+                not_sending: not_sending_class(table, class),
+            };
+            event.sentence(answer.number)
+        }
+        _ => table_sentence(answer, table),
+    }
+}
+
+/// An event that is refused, as sentences have it.
+pub(crate) struct RefusedEvent {
+    pub name: String,
+    pub class: u32,
+    pub length: u32,
+    /// Its class and why that does not send, if it does not.
+    pub not_sending: String,
+}
+
+impl RefusedEvent {
+    /// How the sentence ends for refusals 11 to 14.
+    pub fn sentence(&self, number: u32) -> Option<String> {
+        let RefusedEvent {
+            name,
+            class,
+            length,
+            not_sending,
+        } = self;
+        Some(match (number, class) {
+            (11, _) => {
+                format!("{name} is for class {class}, which no row has; name a class of the table.")
+            }
+            (12, _) => format!("{name} is for {not_sending}; name a class with no class below it."),
+            (13, 0) => {
+                format!("{name} is a finish with length {length}; a finish has length 0.")
+            }
+            (13, _) => format!(
+                "{name}, for class {class}, has length {length}; a packet has 1 to {MOST_BYTES} bytes."
+            ),
+            (14, _) => format!(
+                "{name} is a finish while the line is idle; take it out or put an arrival before it."
+            ),
+            _ => return None,
+        })
+    }
 }
 
 /// The same for a refusal that is not of an event.
@@ -152,41 +192,18 @@ fn sum(table: &TableSlices, row: usize) -> String {
     )
 }
 
-fn no_class(events: &EventSlices, event: usize) -> String {
-    format!(
-        "{} is for class {}, which no row has; name a class of the table.",
-        event_name(event),
-        word(events.classes, event)
-    )
-}
-
-fn not_sending(table: &TableSlices, events: &EventSlices, event: usize) -> String {
-    let class = word(events.classes, event);
-    format!(
-        "{} is for {}; name a class with no class below it.",
-        event_name(event),
-        not_sending_class(table, class)
-    )
-}
-
 /// A class that has a row and does not send, with why.
 pub(crate) fn not_sending_class(table: &TableSlices, class: u32) -> String {
     let found = table.identifiers.iter().position(|i| *i == class);
     let row = found.unwrap_or(0);
-    let why = if row == 0 {
-        "is the line itself"
-    } else {
-        "has classes below it"
-    };
+    let why = not_sending(row);
     format!("class {class}, {}, which {why}", row_name(row))
 }
 
-fn length(events: &EventSlices, event: usize) -> String {
-    let name = event_name(event);
-    let class = word(events.classes, event);
-    let length = word(events.lengths, event);
-    if class == 0 {
-        return format!("{name} is a finish with length {length}; a finish has length 0.");
+/// Why the row, which does not send, does not.
+pub(crate) fn not_sending(row: usize) -> &'static str {
+    match row {
+        0 => "is the line itself",
+        _ => "has classes below it",
     }
-    format!("{name}, for class {class}, has length {length}; a packet has 1 to {MOST_BYTES} bytes.")
 }

@@ -25,6 +25,14 @@ pub struct Table {
     pub rows: Vec<Row>,
 }
 
+/// A row whose parent is told by its row.
+pub struct Linked {
+    pub identifier: u32,
+    pub parent: Option<usize>,
+    pub share: u32,
+    pub depth: usize,
+}
+
 impl Table {
     /// The table, or its first refusal.
     pub fn read(slices: &TableSlices) -> Result<Table, Answer> {
@@ -41,6 +49,26 @@ impl Table {
             table.add_row(*identifier, *parent, *share);
         }
         table
+    }
+
+    /// The tree of an accepted table's rows. A parent may be any of them.
+    pub fn linked(linked: impl IntoIterator<Item = Linked>) -> Table {
+        let linked: Vec<Linked> = linked.into_iter().collect();
+        let row = |row: (usize, &Linked)| {
+            let (row, this) = row;
+            let numbered = linked.iter().enumerate();
+            let children = numbered.filter(|(_, other)| other.parent == Some(row));
+            Row {
+                identifier: this.identifier,
+                parent_written: this.parent.map_or(0, |parent| linked[parent].identifier),
+                parent: this.parent,
+                share: this.share,
+                depth: this.depth,
+                children: children.map(|(child, _)| child).collect(),
+            }
+        };
+        let rows = linked.iter().enumerate().map(row).collect();
+        Table { rows }
     }
 
     /// The rows' own refusals one after another, then those of the sums of shares.

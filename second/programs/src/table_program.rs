@@ -5,6 +5,7 @@ use std::fmt;
 
 use crate::answer::Answer;
 use crate::files::Source;
+use crate::print::Form;
 use crate::program::{read_table, refused_table, Response};
 use crate::run::check_rows;
 use crate::shares::WHOLE;
@@ -23,9 +24,10 @@ fn read_and_draw(arguments: &[OsString]) -> Result<Response, Response> {
         return Err(Response::misunderstood(wanted));
     };
     let file = Source::new(file);
-    let columns = read_table(file)?;
+    let columns = read_table(Form::Run, file)?;
     let slices = columns.slices();
-    let table = accepted(&slices).map_err(|answers| refused_table(file, &slices, &answers))?;
+    let table =
+        accepted(&slices).map_err(|answers| refused_table(Form::Run, file, &slices, &answers))?;
     Ok(Response::done(tree_text(&table)))
 }
 

@@ -16,21 +16,59 @@ pub struct Fault {
 /// The classes and the lengths under the heading.
 pub fn read_events(bytes: &[u8]) -> Result<[Vec<u32>; COLUMNS], Fault> {
     let mut columns = [Vec::new(), Vec::new()];
-    if bytes.is_empty() {
-        check_heading(bytes).map_err(|what| Fault { line: 1, what })?;
-    }
-    for (index, line) in bytes.split_inclusive(|b| *b == b'\n').enumerate() {
-        let read = match without_end(line) {
-            None => Err("the line has no end".to_string()),
-            Some(body) if index == 0 => check_heading(body),
-            Some(body) => read_line(body, &mut columns),
-        };
-        read.map_err(|what| Fault {
-            line: index + 1,
-            what,
-        })?;
-    }
+    let mut reader = Reader::default();
+    reader.take(bytes, |_, numbers| {
+        for (column, number) in columns.iter_mut().zip(numbers) {
+            column.push(number);
+        }
+    })?;
+    reader.end()?;
     Ok(columns)
+}
+
+/// A list that comes piece by piece.
+#[derive(Default)]
+pub struct Reader {
+    /// Lines that have come whole.
+    lines: usize,
+    /// What has come of the next one.
+    begun: Vec<u8>,
+}
+
+impl Reader {
+    /// Takes a piece. The line's number and the class and length of each event that has come whole
+    /// are handed on, up to the first fault.
+    pub fn take(
+        &mut self,
+        piece: &[u8],
+        mut hand_on: impl FnMut(usize, [u32; COLUMNS]),
+    ) -> Result<(), Fault> {
+        for part in piece.split_inclusive(|b| *b == b'\n') {
+            self.begun.extend_from_slice(part);
+            if let Some(body) = without_end(&self.begun) {
+                let line = self.lines + 1;
+                let read = match self.lines {
+                    0 => check_heading(body),
+                    _ => read_line(body).map(|numbers| hand_on(line, numbers)),
+                };
+                read.map_err(|what| Fault { line, what })?;
+                self.begun.clear();
+                self.lines = line;
+            }
+        }
+        Ok(())
+    }
+
+    /// No more comes.
+    pub fn end(&self) -> Result<(), Fault> {
+        let ended = match (self.lines, &self.begun[..]) {
+            (0, []) => check_heading(b""),
+            (_, []) => Ok(()),
+            _ => Err("the line has no end".to_string()),
+        };
+        let line = self.lines + 1;
+        ended.map_err(|what| Fault { line, what })
+    }
 }
 
 /// The line without its LF or CR LF; nothing if it has neither.
@@ -46,16 +84,16 @@ fn check_heading(body: &[u8]) -> Result<(), String> {
     Ok(())
 }
 
-fn read_line(body: &[u8], columns: &mut [Vec<u32>; COLUMNS]) -> Result<(), String> {
+fn read_line(body: &[u8]) -> Result<[u32; COLUMNS], String> {
     let fields: Vec<&[u8]> = body.split(|b| *b == b',').collect();
     if fields.len() != COLUMNS {
         return Err(format!("{COLUMNS} numbers are wanted"));
     }
-    for (index, (field, column)) in fields.iter().zip(columns).enumerate() {
-        let number = read_number(field).map_err(|why| format!("field {} is {why}", index + 1))?;
-        column.push(number);
+    let mut numbers = [0; COLUMNS];
+    for (index, (field, number)) in fields.iter().zip(&mut numbers).enumerate() {
+        *number = read_number(field).map_err(|why| format!("field {} is {why}", index + 1))?;
     }
-    Ok(())
+    Ok(numbers)
 }
 
 /// Why some bytes are no 32-bit number.

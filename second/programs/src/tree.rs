@@ -4,7 +4,7 @@ use std::collections::VecDeque;
 
 use crate::events::MOST_BYTES;
 use crate::inside::Choices;
-use crate::run::MOST_EVENTS;
+use crate::live::MOST_ACCEPTED;
 use crate::shares;
 use crate::table::Table;
 
@@ -17,10 +17,10 @@ pub struct Packet {
     pub length: u32,
 }
 
-/// No tag is over this. A start is never over the largest tag before its event, so an event
-/// raises that by at most the charge for the longest packet under share 1. Such a charge may
+/// No tag is over this. A start is never over the largest tag before its event, so a packet
+/// raises that by at most the charge for the longest one under share 1. Such a charge may
 /// be over 32 bits; that the product is within 64 is seen when this is built.
-const _: u64 = MOST_EVENTS as u64 * MOST_BYTES as u64 * shares::UNIT_COST as u64;
+const _: u64 = (MOST_ACCEPTED as u64 + 1) * MOST_BYTES as u64 * shares::UNIT_COST as u64;
 
 /// Tags are in ticks.
 #[derive(Clone, Default)]
@@ -31,7 +31,7 @@ pub struct RowState {
     /// The packet itself at every level, so that each row above can tell when it arrived.
     pub head: Option<Packet>,
     /// A sending class's packets, first its head; empty at other rows.
-    queue: VecDeque<Packet>,
+    pub queue: VecDeque<Packet>,
 }
 
 /// Why a row chooses.
@@ -46,18 +46,20 @@ enum Reason {
 pub struct Tree<'a> {
     table: &'a Table,
     pub rows: Vec<RowState>,
-    /// Packets in the order in which they went on the line.
-    pub order: Vec<u32>,
     /// Where the choices are counted, if they are.
     choices: Option<&'a mut Choices>,
 }
 
 impl<'a> Tree<'a> {
     pub fn new(table: &'a Table) -> Tree<'a> {
+        Tree::of(table, vec![RowState::default(); table.rows.len()])
+    }
+
+    /// A tree whose rows stand like this.
+    pub fn of(table: &'a Table, rows: Vec<RowState>) -> Tree<'a> {
         Tree {
             table,
-            rows: vec![RowState::default(); table.rows.len()],
-            order: Vec::new(),
+            rows,
             choices: None,
         }
     }
@@ -68,6 +70,11 @@ impl<'a> Tree<'a> {
             choices: Some(choices),
             ..Tree::new(table)
         }
+    }
+
+    /// The packet on the line, which is the root's head.
+    pub fn on_line(&self) -> Option<Packet> {
+        self.rows[0].head
     }
 
     pub fn arrive(&mut self, packet: Packet) {
@@ -83,8 +90,7 @@ impl<'a> Tree<'a> {
 
     /// Takes the packet off the line and gives it back; nothing if the line is idle.
     pub fn line_finished(&mut self) -> Option<Packet> {
-        // The root's head is the packet on the line.
-        let packet = self.rows[0].head?;
+        let packet = self.on_line()?;
         for row in self.table.path(packet.row) {
             self.rows[row].head = None;
         }
@@ -118,7 +124,6 @@ impl<'a> Tree<'a> {
         self.rows[row].virtual_time += u64::from(shares::WHOLE) * u64::from(packet.length);
         if self.table.rows[row].parent.is_none() {
             self.rows[row].head = Some(packet);
-            self.order.push(packet.place);
             return;
         }
         let start = match reason {

@@ -6,13 +6,25 @@ use std::{env, fs, process};
 
 pub struct Folder(PathBuf);
 
+/// What is written here need not come to a disk.
+const IN_MEMORY: &str = "/dev/shm";
+
 impl Folder {
     /// A folder that was not there before; its name begins like this.
     pub fn fresh(name: &str) -> Result<Folder> {
+        Folder::under(&env::temp_dir(), name)
+    }
+
+    /// The same in memory, where there is a place for that: what is brought to a disk is slow.
+    pub fn quick(name: &str) -> Result<Folder> {
+        Folder::under(Path::new(IN_MEMORY), name).or_else(|_| Folder::fresh(name))
+    }
+
+    fn under(folder: &Path, name: &str) -> Result<Folder> {
         let mut number = 0;
         loop {
             let name = format!("{name}-{}-{number}", process::id());
-            let path = env::temp_dir().join(name);
+            let path = folder.join(name);
             match fs::create_dir(&path) {
                 Ok(()) => return Ok(Folder(path)),
                 Err(error) if error.kind() == ErrorKind::AlreadyExists => number += 1,

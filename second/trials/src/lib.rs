@@ -12,6 +12,7 @@ mod damage;
 mod ending;
 pub mod engines;
 mod events;
+mod faults;
 mod files;
 mod folder;
 mod form;
@@ -22,6 +23,7 @@ mod show;
 mod shrink;
 mod steady;
 mod tables;
+mod texts;
 mod times;
 mod tree;
 
@@ -33,6 +35,7 @@ pub use case::{Case, Event, Row, FINISH};
 pub use damage::{damage, damage_twice, NUMBERS};
 pub use ending::counted;
 pub use events::{random_events, sending, EDGES};
+pub use faults::{put_in, put_in_list, Fault, FAULTS, NOT_DIGITS, TOO_LARGE};
 pub use files::{lines, CaptureFile, Files};
 pub use folder::Folder;
 pub use form::{ANSWER, PACKETS};
@@ -45,4 +48,5 @@ pub use tables::{
     any_share, even_table, fresh_identifier, random_table, same_on_air, unknown_identifier, Shape,
     SHAPES,
 };
+pub use texts::{put_in_table, TEXT_FAULTS};
 pub use times::Times;

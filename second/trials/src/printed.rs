@@ -57,6 +57,16 @@ pub struct Printed {
 impl Printed {
     /// Runs the command in the folder; what it prints is kept in two files there meanwhile.
     pub fn by(command: &mut Command, fed: &Fed, folder: &Path) -> Result<Printed> {
+        Printed::within(MOST_TIME, command, fed, folder)
+    }
+
+    /// The same with another limit on the time.
+    pub fn within(
+        most: Duration,
+        command: &mut Command,
+        fed: &Fed,
+        folder: &Path,
+    ) -> Result<Printed> {
         let [output, error] = ["output", "error"].map(|name| folder.join(name));
         command.current_dir(folder);
         command.stdin(fed.stream()?);
@@ -70,7 +80,7 @@ impl Printed {
             let bytes = bytes.clone();
             thread::spawn(move || feed(pipe, &bytes));
         }
-        let end = wait(&mut child, MOST_TIME)?;
+        let end = wait(&mut child, most)?;
         Ok(Printed {
             output: fs::read(output)?,
             error: fs::read(error)?,

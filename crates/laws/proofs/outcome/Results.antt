@@ -9,7 +9,7 @@ use native.Mathlib.Omega.{arith}
 use lib.Dec.{eqb}
 use lib.ListN.{length, getD, take, drop, List·getD-append}
 use lib.Seq.{getD-append-add, getD-append-seam, take-append-seam}
-use lib.IntN.{pos}
+use lib.IntN.{ℤ, pos}
 use borrow.Author.Tests.{eq-eqb, eqb-true}
 use Rattle.input.specs.declared.Refusal.{Refusal}
 use Rattle.input.specs.Limits.{report-words}
@@ -70,6 +70,21 @@ module _ (tree : Tree) (box : Box) where
           subst (λ (i : ℕ). getD (lags-of tree box n ++ lag tree box n ∷ []) i (pos 0) ≡ lag tree box r) (sym place)
           (getD-append-seam (lags-of tree box n) (lag tree box n) [] (pos 0) ∙ ap (lag tree box) same)
 
+-- ── as they are written over a slice ──
+
+module _ (tree : Tree) (box : Box) where
+  pub reported-at :
+      (lent : List ℕ) (n r i : ℕ) → r < n → i < report-words
+      → getD (over (report-of tree box n) lent) (report-words * r + i) 0 ≡ getD (row-report tree box r) i 0
+  reported-at lent n r i inside word =
+      let size = report-length tree box n in
+      over-at (report-of tree box n) lent (report-words * r + i) 0 (omega arith) ∙ report-at tree box n r i inside word
+
+  pub lag-at : (lent : List ℤ) (n r : ℕ) → r < n → getD (over (lags-of tree box n) lent) r (pos 0) ≡ lag tree box r
+  lag-at lent n r inside =
+      let size = lags-length tree box n in
+      over-at (lags-of tree box n) lent r (pos 0) (omega arith) ∙ lags-at tree box n r inside
+
 -- ── a done run ──
 
 -- an input that is not refused is done
@@ -114,16 +129,8 @@ module _ (lent : Lent) (left : Outcome) (ran : Ran lent left) (done : left .answ
       (r i : ℕ) → r < tree-of (lent .table) .rows → i < report-words
       → getD (left .report) (report-words * r + i) 0 ≡ getD (row-report (tree-of (lent .table)) last r) i 0
   unfolding doing
-  word-is r i inside word =
-      let size = report-length (tree-of (lent .table)) last (tree-of (lent .table) .rows) in
-      rw (done-left)
-      (over-at (report-of (tree-of (lent .table)) last (tree-of (lent .table) .rows)) (lent .report) (report-words * r + i) 0 (omega arith)
-      ∙ report-at (tree-of (lent .table)) last (tree-of (lent .table) .rows) r i inside word)
+  word-is r i inside word = rw (done-left) (reported-at (tree-of (lent .table)) last (lent .report) (tree-of (lent .table) .rows) r i inside word)
 
   pub lag-is : (r : ℕ) → r < tree-of (lent .table) .rows → getD (left .lags) r (pos 0) ≡ lag (tree-of (lent .table)) last r
   unfolding doing
-  lag-is r inside =
-      let size = lags-length (tree-of (lent .table)) last (tree-of (lent .table) .rows) in
-      rw (done-left)
-      (over-at (lags-of (tree-of (lent .table)) last (tree-of (lent .table) .rows)) (lent .lags) r (pos 0) (omega arith)
-      ∙ lags-at (tree-of (lent .table)) last (tree-of (lent .table) .rows) r inside)
+  lag-is r inside = rw (done-left) (lag-at (tree-of (lent .table)) last (lent .lags) (tree-of (lent .table) .rows) r inside)

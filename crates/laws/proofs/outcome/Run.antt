@@ -1,42 +1,33 @@
 -- The theorems on a run, said of the lent slices that it leaves: whatever was lent, where the answer's number is 0.
 -- Assumes nothing.
 use Prim.Native.Nat.{ℕ, suc, _+_, _*_, _%_, _≤_, _<_}
-use mathlib.Core.Path.{_≡_, sym, _∙_, ap, subst}
-use mathlib.Core.Logic.{_≢_, _⊎_, inl, inr}
-use mathlib.Core.Bool.{Bool, true, false, cond, not}
+use mathlib.Core.Path.{_≡_, sym, _∙_, ap}
+use mathlib.Core.Logic.{_≢_, _⊎_}
+use mathlib.Core.Bool.{cond}
 use mathlib.Core.List.{List, map}
-use native.Mathlib.Decide.{ℕ-discrete}
-use native.Mathlib.Nat.{le-refl, mul-le-mul-right}
 use native.Mathlib.Omega.{arith}
 use lib.Dec.{eqb}
 use lib.ListN.{length, getD, take}
 use lib.IntN.{pos}
-use borrow.Author.Tests.{ne-eqb}
 use Rattle.input.specs.declared.Event.the-variants.{Arrival}
 use Rattle.input.specs.Limits.{report-words, whole, ticks, scale, packets-a-step}
 use Rattle.input.specs.Classes.{Tree, tree-of, row-of, on-air, parent, share}
 use Rattle.input.specs.Events.{Events, count, class-word, length-word, event}
 use Rattle.input.specs.Refusals.{table-refused}
-use Rattle.rules.specs.Box.{held-by}
 use Rattle.rules.specs.Steps.{after}
-use Rattle.rules.specs.Outcome.{Lent, Outcome, row-report, lag, room-of, Ran}
+use Rattle.rules.specs.Outcome.{Lent, Outcome, room-of, Ran}
 use Rattle.rules.specs.Promise.{finish-count, arrived, largest, packets-for, bytes-for, finished, finished-in, holds, Backlogged, line-most}
 use Rattle.rules.specs.Promise.{ticks-for, no-ticks, Promised}
 use Rattle.laws.specs.Sound.{ApartOnAir, Sender}
 use Rattle.laws.specs.Rounding.{rounding, rounded-ticks, Exact}
 use Rattle.laws.specs.History.{Accepted, largest-for, LagSince, arrivals-of, only-for}
 use Rattle.laws.specs.Shorter.{cut}
-use Rattle.laws.proofs.tree.Trees.{rounding-most, rounding-none, table-passes, accepted}
+use Rattle.laws.proofs.tree.Trees.{table-passes, accepted}
 use Rattle.laws.proofs.tree.OnAir.{none-cut, apart-on-air}
-use Rattle.laws.proofs.event.Turns.{fewer}
-use Rattle.laws.proofs.run.History.{bytes-counted, held-counted, holds-held, order-grows, order-length, first-in-first-out, once}
-use Rattle.laws.proofs.run.Idle.{busy-is-held}
-use Rattle.laws.proofs.run.Sent.{order-arrived}
-use Rattle.laws.proofs.share.Promise.{promised, no-lag}
-use Rattle.laws.proofs.share.LineMost.{denominator-some, more-promised}
-use Rattle.laws.proofs.share.Lags.{lag-since, last-empty, lag-most}
-use Rattle.laws.proofs.share.Index.{counted-index}
+use Rattle.laws.proofs.run.History.{order-grows}
 use Rattle.laws.proofs.outcome.Shorter.{first-last, shorter-passes}
+use Rattle.laws.proofs.outcome.Shown as shown
+use Rattle.laws.proofs.outcome.Shown.{Ordered, Shown}
 use Rattle.laws.proofs.outcome.Results.{accepted-done, not-refused, count-is, order-is, word-is, lag-is}
 
 -- the packets that a run put on the line, in their order
@@ -46,11 +37,6 @@ sent left = take (left .answer .count) (left .order)
 -- word i of row r in the report that it left
 abbrev pub reported : Outcome → ℕ → ℕ → ℕ
 reported left r i = getD (left .report) (report-words * r + i) 0
-
--- one for a busy line
-line-count : (b : Bool) (n size : ℕ) → size ≡ n + cond (not b) 1 0 → size ≡ n + cond b 0 1
-line-count true n size is = is
-line-count false n size is = is
 
 module _ (lent : Lent) (left : Outcome) (ran : Ran lent left) (done : left .answer .number ≡ 0) where
   abbrev tree : Tree
@@ -67,15 +53,11 @@ module _ (lent : Lent) (left : Outcome) (ran : Ran lent left) (done : left .answ
 
   -- ── where the box's words stand ──
 
-  order-left : sent left ≡ after tree events all .order
-  order-left = order-is lent left ran done
+  ordered : Ordered tree events all (sent left)
+  ordered = record { accepted = ok; order-is = order-is lent left ran done }
 
-  held-left : (r : ℕ) → r < tree .rows → reported left r 4 ≡ held-by (after tree events all) r
-  unfolding row-report
-  held-left r inside = word-is lent left ran done r 4 inside (omega arith)
-
-  lag-left : (r : ℕ) → r < tree .rows → getD (left .lags) r (pos 0) ≡ lag tree (after tree events all) r
-  lag-left = lag-is lent left ran done
+  pub shows : Shown tree events all (sent left) (left .report) (left .lags)
+  shows = record { ordered = ordered; word-is = word-is lent left ran done; lag-is = lag-is lent left ran done }
 
   -- ── identifiers ──
 
@@ -93,33 +75,27 @@ module _ (lent : Lent) (left : Outcome) (ran : Ran lent left) (done : left .answ
   -- ── the order ──
 
   pub count-sent : length (sent left) ≡ left .answer .count
-  count-sent = ap length order-left ∙ sym (count-is lent left ran done)
+  count-sent = ap length (order-is lent left ran done) ∙ sym (count-is lent left ran done)
 
   -- as many are finished as there were finishes; one more is on the line exactly where the report has packets held for the root
   pub finished-sent : left .answer .count ≡ finish-count events all + cond (eqb (reported left 0 4) 0) 0 1
-  finished-sent =
-      rw (held-left 0 (ok .sound .some-rows), count-is lent left ran done)
-      (line-count (eqb (held-by (after tree events all) 0) 0) _ _ (rw (busy-is-held tree events all ok) at (order-length tree events all ok)))
+  finished-sent = sym count-sent ∙ shown.finished-sent shows
 
   -- each word names an arrival of the list, for a sending class
   pub sent-arrived :
       (i packet : ℕ) → i < left .answer .count → getD (sent left) i 0 ≡ packet
       → (packet < all) × (event events packet ≡ Arrival (class-word events packet) (length-word events packet))
       × Sender tree (row-of tree (class-word events packet))
-  sent-arrived i packet inside is =
-      let size = count-is lent left ran done in
-      rw (← is, order-left) (order-arrived tree events all ok i (omega arith))
+  sent-arrived i packet inside = shown.sent-arrived ordered i packet (omega (arith, count-sent))
 
   -- no packet is sent twice
   pub sent-once : (i j : ℕ) → i < j → j < left .answer .count → getD (sent left) i 0 ≢ getD (sent left) j 0
-  sent-once i j before inside =
-      let size = count-is lent left ran done in
-      rw order-left (once tree events all i j ok before (omega arith))
+  sent-once i j before inside = shown.sent-once ordered i j before (omega (arith, count-sent))
 
   -- what is sent of a class is the first of its arrivals, in their order
   pub sent-in-turn :
       (k : ℕ) → Sender tree k → only-for tree events k (sent left) ≡ take (length (only-for tree events k (sent left))) (arrivals-of tree events k all)
-  sent-in-turn k sender = rw order-left (first-in-first-out tree events all k ok sender)
+  sent-in-turn = shown.sent-in-turn ordered
 
   -- ── after every event: the run of the first n events ──
 
@@ -139,33 +115,24 @@ module _ (lent : Lent) (left : Outcome) (ran : Ran lent left) (done : left .answ
     unfolding cut
     cut-sent =
         order-is (cut n lent) shorter ran-shorter cut-done
-        ∙ rw (first-last events n tree earlier, cut-count, order-left) (sym (order-grows tree events n all earlier ok))
+        ∙ rw (first-last events n tree earlier, cut-count, order-is lent left ran done) (sym (order-grows tree events n all earlier ok))
 
     -- as many are finished by then as there were finishes; one more is on the line exactly where the root holds a packet
     pub finished-by-then : shorter .answer .count ≡ finish-count events n + cond (eqb (holds tree events (sent left) 0 n) 0) 0 1
-    finished-by-then =
-        let so-far = fewer tree events n all earlier ok in
-        rw (cut-count, order-left, holds-held tree events n all 0 earlier ok (ok .sound .some-rows))
-        (line-count (eqb (held-by (after tree events n) 0) 0) _ _ (rw (busy-is-held tree events n so-far) at (order-length tree events n so-far)))
+    finished-by-then = cut-count ∙ shown.finished-by ordered n earlier
 
     -- the line is never idle: nothing is held, or fewer packets are finished than were sent
     pub never-idle-after : (holds tree events (sent left) 0 n ≡ 0) ⊎ (finish-count events n < shorter .answer .count)
-    never-idle-after = go (ℕ-discrete (holds tree events (sent left) 0 n) 0)
-      where
-        go : Dec (holds tree events (sent left) 0 n ≡ 0) → (holds tree events (sent left) 0 n ≡ 0) ⊎ (finish-count events n < shorter .answer .count)
-        go (yes none) = inl none
-        go (no some) = inr (omega (arith, rw (ne-eqb (holds tree events (sent left) 0 n) 0 some) at finished-by-then))
+    never-idle-after = rw cut-count (shown.never-idle-by ordered n earlier)
 
   -- ── the report ──
 
   pub bytes-reported : (r : ℕ) → r < tree .rows → reported left r 0 ≡ bytes-for tree events r (finished events (sent left) all)
-  unfolding row-report
-  bytes-reported r inside =
-      word-is lent left ran done r 0 inside (omega arith) ∙ rw order-left (bytes-counted tree events all all r (omega arith) ok inside)
+  bytes-reported = shown.bytes-reported shows
 
   pub held-reported :
       (r : ℕ) → r < tree .rows → arrived tree events r all ≡ packets-for tree events r (finished events (sent left) all) + reported left r 4
-  held-reported r inside = rw (held-left r inside, order-left) (held-counted tree events all all r (omega arith) ok inside)
+  held-reported = shown.held-reported shows
 
   -- ── the promise on shares ──
 
@@ -174,52 +141,34 @@ module _ (lent : Lent) (left : Outcome) (ran : Ran lent left) (done : left .answ
   pub share-is-rounded :
       (k a b : ℕ) → k < tree .rows → a ≤ b → b ≤ all → Backlogged tree events (sent left) k a b
       → Promised tree events (sent left) 2 (largest events all) (rounded-ticks tree events) k a b
-  share-is-rounded k a b inside order ended =
-      subst (λ (order : List ℕ). Backlogged tree events order k a b → Promised tree events order 2 (largest events all) (rounded-ticks tree events) k a b)
-      (sym order-left) (promised tree events all ok k a b inside order ended)
+  share-is-rounded = shown.share-is-rounded ordered
 
   pub share-is-two-packets :
       (k a b : ℕ) → k < tree .rows → a ≤ b → b ≤ all → Backlogged tree events (sent left) k a b
       → Promised tree events (sent left) 2 (largest events all) (ticks-for tree events) k a b
-  unfolding rounded-ticks
-  share-is-two-packets k a b inside order ended backlogged =
-      more-promised tree (ok .sound) events (sent left) 2 2 (largest events all) (rounded-ticks tree events) (ticks-for tree events) k a b inside (omega arith)
-      (λ r positive on.
-      let one = mul-le-mul-right (ticks-for tree events (finished-in events (sent left) a b) r) (rounding-most (share tree r)) in
-      omega arith)
-      (share-is-rounded k a b inside order ended backlogged)
+  share-is-two-packets = shown.share-is-two-packets ordered
 
   -- the number that is asked for
   pub share-is-a-number :
       (k a b : ℕ) → k < tree .rows → a ≤ b → b ≤ all → Backlogged tree events (sent left) k a b
       → Promised tree events (sent left) packets-a-step (largest events all) (ticks-for tree events) k a b
-  share-is-a-number k a b inside order ended backlogged =
-      more-promised tree (ok .sound) events (sent left) 2 packets-a-step (largest events all) (ticks-for tree events) (ticks-for tree events) k a b inside
-      (omega arith) (λ r positive on. le-refl _)
-      (share-is-two-packets k a b inside order ended backlogged)
+  share-is-a-number = shown.share-is-a-number ordered
 
   -- no tick is needed where every share on the row's own path divides the scale, whatever the others have
   pub exact-share-is-two-packets :
       (k a b : ℕ) → k < tree .rows → a ≤ b → b ≤ all → Backlogged tree events (sent left) k a b → Exact tree k
       → Promised tree events (sent left) 2 (largest events all) no-ticks k a b
-  unfolding rounded-ticks no-ticks
-  exact-share-is-two-packets k a b inside order ended backlogged exact =
-      more-promised tree (ok .sound) events (sent left) 2 2 (largest events all) (rounded-ticks tree events) no-ticks k a b inside (omega arith)
-      (λ r positive on. rw (rounding-none (share tree r) (exact r positive on)) (omega arith))
-      (share-is-rounded k a b inside order ended backlogged)
+  exact-share-is-two-packets = shown.exact-share-is-two-packets ordered
 
   pub exact-share-is-a-number :
       (k a b : ℕ) → k < tree .rows → a ≤ b → b ≤ all → Backlogged tree events (sent left) k a b → Exact tree k
       → Promised tree events (sent left) packets-a-step (largest events all) no-ticks k a b
-  exact-share-is-a-number k a b inside order ended backlogged exact =
-      more-promised tree (ok .sound) events (sent left) 2 packets-a-step (largest events all) no-ticks no-ticks k a b inside (omega arith)
-      (λ r positive on. le-refl _)
-      (exact-share-is-two-packets k a b inside order ended backlogged exact)
+  exact-share-is-a-number = shown.exact-share-is-a-number ordered
 
   -- it is a number: its denominator is above 0
   pub share-denominator :
       (packets largest : ℕ) (more : ℕ → ℕ) (k own : ℕ) → k < tree .rows → 0 < line-most tree packets largest more k own .denominator
-  share-denominator packets largest more = denominator-some tree (ok .sound) packets largest more
+  share-denominator = shown.share-denominator ordered
 
   -- ── the worst-case fair index ──
 
@@ -236,44 +185,30 @@ module _ (lent : Lent) (left : Outcome) (ran : Ran lent left) (done : left .answ
       * (share tree k * largest-for tree events (parent tree k) all
       + whole * (bytes-for tree events k (finished-in events (sent left) (suc i) (suc j)) + largest-for tree events k all))
       + share tree k * (rounding (share tree k) * suc (packets-for tree events k (finished-in events (sent left) (suc i) (suc j))))
-  fair-index k i j positive inside = rw order-left (counted-index tree events all ok k i j positive inside)
+  fair-index = shown.fair-index ordered
 
   -- ── lags ──
 
   -- while a class holds a packet its lag counts from the event that ended its last empty moment
   pub lag-counts-since :
       (r : ℕ) → 0 < r → r < tree .rows → 0 < reported left r 4 → LagSince tree events (sent left) r all (getD (left .lags) r (pos 0))
-  lag-counts-since r positive inside holding =
-      rw (lag-left r inside, order-left) (lag-since tree events all ok r positive inside (rw (held-left r inside) at holding))
+  lag-counts-since = shown.lag-counts-since shows
 
   -- the root, and a class that holds nothing, have none
   pub lag-none : (r : ℕ) → r < tree .rows → (r ≡ 0) ⊎ (reported left r 4 ≡ 0) → getD (left .lags) r (pos 0) ≡ pos 0
-  lag-none r inside quiet = lag-left r inside ∙ no-lag tree events all ok r all (rw (held-left r inside) at quiet)
+  lag-none = shown.lag-none shows
 
   -- every row has a last empty moment
   pub last-empty-moment :
       (r : ℕ) → r < tree .rows → (from : ℕ) × (from ≤ all) × (holds tree events (sent left) r from ≡ 0) × Backlogged tree events (sent left) r from all
-  last-empty-moment r inside = rw order-left (last-empty tree events all ok r inside)
+  last-empty-moment = shown.last-empty-moment ordered
 
-  -- no lag is above two largest packets and the rounding since then
-  lag-rounded :
-      (r from lagging : ℕ) → r < tree .rows → from ≤ all → holds tree events (sent left) r from ≡ 0 → Backlogged tree events (sent left) r from all
-      → getD (left .lags) r (pos 0) ≡ pos lagging
-      → ticks * lagging
-      ≤ ticks * (2 * whole * largest events all) + share tree r * rounded-ticks tree events (finished-in events (sent left) from all) r
-  lag-rounded r from lagging inside earlier =
-      rw (order-left, lag-left r inside) (lag-most tree events all ok r from lagging inside earlier)
-
+  -- no lag is above two largest packets and the ticks since then
   pub no-lag-above-two :
       (r from lagging : ℕ) → r < tree .rows → from ≤ all → holds tree events (sent left) r from ≡ 0 → Backlogged tree events (sent left) r from all
       → getD (left .lags) r (pos 0) ≡ pos lagging
       → ticks * lagging ≤ ticks * (2 * whole * largest events all) + share tree r * ticks-for tree events (finished-in events (sent left) from all) r
-  unfolding rounded-ticks
-  no-lag-above-two r from lagging inside earlier empty backlogged is =
-      let rounded = lag-rounded r from lagging inside earlier empty backlogged is in
-      let since = ticks-for tree events (finished-in events (sent left) from all) r in
-      let one = mul-le-mul-right (share tree r * since) (rounding-most (share tree r)) in
-      omega arith
+  no-lag-above-two = shown.no-lag-above-two shows
 
   -- so none is above the three that are promised
   pub no-lag-above :
@@ -281,16 +216,10 @@ module _ (lent : Lent) (left : Outcome) (ran : Ran lent left) (done : left .answ
       → getD (left .lags) r (pos 0) ≡ pos lagging
       → ticks * lagging
       ≤ ticks * (packets-a-step * whole * largest events all) + share tree r * ticks-for tree events (finished-in events (sent left) from all) r
-  no-lag-above r from lagging inside earlier empty backlogged is =
-      let two = no-lag-above-two r from lagging inside earlier empty backlogged is in
-      omega arith
+  no-lag-above = shown.no-lag-above shows
 
   -- without ticks where the row's own share divides the scale
   pub no-exact-lag-above :
       (r lagging : ℕ) → r < tree .rows → scale % share tree r ≡ 0 → getD (left .lags) r (pos 0) ≡ pos lagging
       → lagging ≤ 2 * whole * largest events all
-  unfolding rounded-ticks
-  no-exact-lag-above r lagging inside exact is =
-      let (from, earlier, empty, backlogged) = last-empty-moment r inside in
-      let rounded = rw (rounding-none (share tree r) exact) at (lag-rounded r from lagging inside earlier empty backlogged is) in
-      omega arith
+  no-exact-lag-above = shown.no-exact-lag-above shows

@@ -26,18 +26,18 @@ or-passes : (x y : Refusal) → x .number ≡ 0 → y .number ≡ 0 → or-else 
 unfolding or-else
 or-passes x y one other = rw (eq-eqb (x .number) 0 one) other
 
-first-passes : (xs : List Refusal) → None xs → first xs .number ≡ 0
+pub first-passes : (xs : List Refusal) → None xs → first xs .number ≡ 0
 unfolding first nothing
 first-passes [] none = refl
 first-passes (x ∷ xs) (here, none) = or-passes x (first xs) here (first-passes xs none)
 
-below-passes : (at : ℕ → Refusal) (n : ℕ) → ((i : ℕ) → i < n → at i .number ≡ 0) → first-below at n .number ≡ 0
+pub below-passes : (at : ℕ → Refusal) (n : ℕ) → ((i : ℕ) → i < n → at i .number ≡ 0) → first-below at n .number ≡ 0
 unfolding first-below nothing
 below-passes at zero each = refl
 below-passes at (suc n) each =
     or-passes (first-below at n) (at n) (below-passes at n (λ i below. each i (omega arith))) (each n (omega arith))
 
-given-passes : (test : Bool) (number place : ℕ) → test ≡ false → given test number place .number ≡ 0
+pub given-passes : (test : Bool) (number place : ℕ) → test ≡ false → given test number place .number ≡ 0
 unfolding given nothing
 given-passes test number place fails = rw fails
 
@@ -68,7 +68,7 @@ module _ (events : Events) (n : ℕ) where
     first-after zero earlier = refl
     first-after (suc i) earlier = next-after i earlier (first-after i (omega arith))
 
-    first-refused : (i : ℕ) → i < n → event-refused tree (first-events n events) i ≡ event-refused tree events i
+    pub first-refused : (i : ℕ) → i < n → event-refused tree (first-events n events) i ≡ event-refused tree events i
     unfolding event-refused
     first-refused i before = rw (first-length i before, first-event i before, first-after i (omega arith))
 

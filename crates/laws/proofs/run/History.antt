@@ -1,8 +1,8 @@
 -- Conservation: what the box counts is what can be counted from the events and the order, and the order is first in, first out.
 -- Assumes nothing.
-use Prim.Native.Nat.{ℕ, suc, _+_, _≤_, _<_}
+use Prim.Native.Nat.{ℕ, zero, suc, _+_, _≤_, _<_}
 use mathlib.Core.Path.{_≡_, refl, sym, _∙_, subst}
-use mathlib.Core.Logic.{_≢_}
+use mathlib.Core.Logic.{_≢_, ⊎-elim}
 use mathlib.Core.Bool.{true, false, cond}
 use mathlib.Core.List.{List, [], _∷_, _++_, append-nil, append-assoc}
 use native.Mathlib.Decide.{le-ind}
@@ -15,11 +15,14 @@ use Rattle.input.specs.Classes.{Tree}
 use Rattle.input.specs.Events.{Events, event}
 use Rattle.rules.specs.Box.{Box, has-head, bytes-of, held-by}
 use Rattle.rules.specs.Steps.{arrival, departure, step, after}
-use Rattle.rules.specs.Promise.{for-part, finish-count, arrived, packets-for, bytes-for, finished, holds}
+use Rattle.rules.specs.Refused.{idle, event-refused}
+use Rattle.rules.specs.Promise.{within, for-part, one-finish, one-arrival, finish-count, arrived, packets-for, bytes-for, finished, holds}
 use Rattle.laws.specs.Sound.{Sender}
 use Rattle.laws.specs.History.{Accepted, arrivals-of, only-for}
-use Rattle.laws.proofs.tree.Paths.{self-within}
-use Rattle.laws.proofs.event.Turns.{class-at, fewer}
+use Rattle.laws.proofs.tree.Paths.{self-within, root-within}
+use Rattle.laws.proofs.tree.Trees.{arrival-fits}
+use Rattle.laws.proofs.path.Tests.{cond-self}
+use Rattle.laws.proofs.event.Turns.{class-at, Arrives, met, fewer}
 use Rattle.laws.proofs.run.Orders.{All, all-middle, twice, only-twice, arrivals-ascend, Ascending}
 use Rattle.laws.proofs.run.Counting.{on-line, on-line-length, ForSender, counted, order-sent, order-first, arrived-all, idle-line-holds-none, busy-line-holds}
 
@@ -113,6 +116,28 @@ module _ (tree : Tree) (events : Events) where
       let ascend = subst (λ xs. Ascending 0 n xs) (sym (first .1)) (arrivals-ascend tree events k n) in
       only-twice tree events k n front x middle back (first .0) (self-within tree (ok .sound) k)
       (subst (λ xs. Ascending 0 n (only-for tree events k xs ++ first .0)) parts ascend)
+
+  -- each event that is accepted is the arrival of one packet or the finish of one
+  one-counted :
+      (n i : ℕ) → Accepted tree events n → i < n → cond (for-part tree events 0 i) (one-arrival (event events i)) 0 + one-finish (event events i) ≡ 1
+  unfolding event-refused for-part one-arrival one-finish
+  one-counted n i ok before = ⊎-elim arrives finishes (met events i)
+    where
+      arrives : Arrives events i → cond (for-part tree events 0 i) (one-arrival (event events i)) 0 + one-finish (event events i) ≡ 1
+      arrives is =
+          let fits = arrival-fits tree (ok .sound) i _ _ _ (idle (after tree events i)) (rw is at (ok .each i before)) in
+          rw (is, root-within tree (ok .sound) (class-at tree events i) (fits .sender .inside))
+
+      finishes : event events i ≡ Finish → cond (for-part tree events 0 i) (one-arrival (event events i)) 0 + one-finish (event events i) ≡ 1
+      finishes is = rw (is, cond-self {A = ℕ} (within tree 0 (class-at tree events i)) 0)
+
+  pub all-counted : (n : ℕ) → Accepted tree events n → arrived tree events 0 n + finish-count events n ≡ n
+  unfolding arrived finish-count
+  all-counted zero ok = refl
+  all-counted (suc n) ok =
+      let earlier = all-counted n (fewer tree events n (suc n) (omega arith) ok) in
+      let last = one-counted (suc n) n ok (omega arith) in
+      omega arith
 
   -- the line is idle exactly where every packet that arrived is finished
   pub idle-counted : (n : ℕ) → Accepted tree events n → has-head (after tree events n .rows) 0 ≡ false → arrived tree events 0 n ≡ finish-count events n

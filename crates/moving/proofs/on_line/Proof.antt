@@ -13,12 +13,12 @@ sub-t4 c = search needs
 
 returns-2 : tie.Need-returns-2
 returns-2 c =
-    let start = c .before .before .before .args in
+    let start = c .before .before .args in
     goes-on-line (start .idle) (start .head) (c .if2 .taken) (c .before .if1 .left)
 
 returns-3 : tie.Need-returns-3
 returns-3 c =
-    let start = c .before .before .before .args in
+    let start = c .before .before .args in
     busy-line (start .idle) (start .head) (c .if2 .left)
 
 pub on-line-spec : {M : Type 1} → statement M

@@ -5,7 +5,7 @@ use mathlib.Core.Path.{_≡_, refl, sym, _∙_}
 use native.Mathlib.Numerals.{add-one}
 use lib.ListN.{drop}
 use Rattle.live_rules.specs.State.{packets-at, queue}
-use Rattle.storing.specs.Packets.{next-of}
+use Rattle.hierarchy.specs.Next.{next-of}
 use Rattle.storing.proofs.Packets.{next-here, next-later, next-none, next-word, worded-in}
 use native.Mathlib.Omega.{arith}
 use borrow.Author.Needs.{needs}
@@ -55,16 +55,21 @@ next-at-requires : tie.Need-next-at-requires Inv-loop μ-loop
 next-at-requires c κs =
     let at = c .before .before .before .before .before in
     let s = at .before .before .before in
-    worded-in (s .args .m) (s .args .state .now) (at .loop .i) (omega arith) (s .pre .1 .1)
+    let worded = worded-in (s .args .m) (s .args .state .now) (at .loop .i) (omega arith) (s .pre .1 .1) in
+    (worded .0, omega (arith, worded .1))
 
 returns : tie.Need-returns Inv-loop μ-loop
 returns c =
     let at = c .before .before .before .before .before .before in
-    let s = at .before .before .before .args in
-    let mine = c .before .before .before .if1 .taken ∙ at .before .counted .ensures in
-    rw (← at .loop .inv)
-    (next-word (c .next-at .result .word) (c .next-at .result .size) _ _ (c .next-at .ensures .0) (c .next-at .ensures .1)
-    ∙ sym (next-here (s .m) (s .state .now) (s .class) (at .loop .i) (omega arith) mine))
+    let asked = at .before .before .before in
+    let s = asked .args in
+    let worded = worded-in (s .m) (s .state .now) (at .loop .i) (omega arith) (asked .pre .1 .1) in
+    let mine = c .before .before .before .if1 .taken ∙ at .before .counted .ensures in (
+      rw (← at .loop .inv)
+          (next-word (c .next-at .result .word) (c .next-at .result .size) _ _ (c .next-at .ensures .0) (c .next-at .ensures .1)
+          ∙ sym (next-here (s .m) (s .state .now) (s .class) (at .loop .i) (omega arith) mine)),
+      omega (arith, worded .1, c .next-at .ensures .1),
+    )
 
 add-i : tie.Need-add-i Inv-loop μ-loop
 add-i c = search needs
@@ -85,7 +90,7 @@ unfolding next-of
 returns-2 c =
     let at = c .before in
     let s = at .before .before .before .args in
-    rw (← at .loop .inv, next-none (s .m) (s .state .now) (s .class) (at .loop .i) (omega arith))
+    (rw (← at .loop .inv, next-none (s .m) (s .state .now) (s .class) (at .loop .i) (omega arith)) refl, omega arith)
 
 pub next-packet-spec : {M : Type 1} → statement M
 next-packet-spec =

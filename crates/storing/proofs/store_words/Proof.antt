@@ -17,13 +17,13 @@ abbrev μ-loop : tie.MeasureT-loop
 μ-loop state₀ at n list r₀ state r = n - r
 
 loop-holds : tie.Need-loop-holds Inv-loop μ-loop
-loop-holds c = (omega arith, written-none _ (c .before .args .list .now) (c .before .args .at), refl)
+loop-holds c = (omega arith, written-none _ (c .before .before .args .list .now) (c .before .before .args .at), refl)
 
 mul-long : tie.Need-mul-long Inv-loop μ-loop
 mul-long c = search needs
 
-element-copy-out-long : tie.Need-element-copy-out-long Inv-loop μ-loop
-element-copy-out-long c = search needs
+shared-slice-read-long : tie.Need-shared-slice-read-long Inv-loop μ-loop
+shared-slice-read-long c = search needs
 
 long-requires : tie.Need-long-requires Inv-loop μ-loop
 long-requires c κs = search needs
@@ -46,7 +46,7 @@ loop-less c = search needs
 loop-again : tie.Need-loop-again Inv-loop μ-loop
 loop-again c =
     let at = c .before .before .before in
-    let s = at .before .before .args in (
+    let s = at .before .before .before .args in (
       omega arith,
       written-turn (at .loop .state) (s .state .now) (s .list .now) (s .at) (at .loop .r) _ (omega arith) (c .long .ensures .0) (at .loop .inv .1),
       simp length-set (omega arith),
@@ -57,7 +57,7 @@ same-length c = search needs
 
 returns : tie.Need-returns Inv-loop μ-loop
 returns c =
-    let end : c .before .loop .r ≡ c .before .before .before .args .n = omega arith in
+    let end : c .before .loop .r ≡ c .before .before .before .before .args .n = omega arith in
     (rw (← end) (c .before .loop .inv .1), c .before .loop .inv .2)
 
 pub store-words-spec : {M : Type 1} → statement M
@@ -68,7 +68,7 @@ store-words-spec =
     μ-loop
     loop-holds
     mul-long
-    element-copy-out-long
+    shared-slice-read-long
     long-requires
     add-state
     mul-state

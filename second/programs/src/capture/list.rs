@@ -1,16 +1,13 @@
 //! The list that a capture makes, event by event together with the box, and refusals 11 to 13.
 
-use crate::answer::number_of;
 use crate::capture::records::Record;
 use crate::capture::refusals::{EventFault, Refusal};
 use crate::capture::Capture;
-use crate::counts::Counts;
 use crate::events::{decode, Event};
 use crate::report;
-use crate::run;
+use crate::scheduler::Scheduler;
 use crate::slices::{EventRoom, Lent};
 use crate::table::Table;
-use crate::tree::{Packet, Tree};
 
 /// A record's packet as it arrives for its class.
 #[derive(Clone, Copy)]
@@ -32,10 +29,8 @@ pub struct Trip {
 
 /// The box with a clock.
 pub struct Line<'a> {
-    table: &'a Table,
     capture: &'a Capture<'a>,
-    tree: Tree<'a>,
-    counts: Counts<'a>,
+    scheduler: Scheduler<'a>,
     /// The events so far, with nothing for a finish.
     list: Vec<Option<Arrival>>,
     /// In sending order; while the line is busy the last one is on it.
@@ -45,10 +40,8 @@ pub struct Line<'a> {
 impl<'a> Line<'a> {
     pub fn new(table: &'a Table, capture: &'a Capture<'a>) -> Line<'a> {
         Line {
-            table,
             capture,
-            tree: Tree::new(table),
-            counts: Counts::new(table),
+            scheduler: Scheduler::new(table),
             list: Vec::new(),
             trips: Vec::new(),
         }
@@ -68,41 +61,33 @@ impl<'a> Line<'a> {
     /// Lets the line finish what it has finished at this moment, whatever else happens then.
     fn finish_until(&mut self, moment: u64) {
         while let Some(due) = self.due().filter(|due| *due <= moment) {
-            run::finish(&mut self.tree, &mut self.counts);
-            self.list.push(None);
-            self.note_sent(due);
+            self.take(Event::Finish, None, due);
         }
     }
 
     /// When the packet on the line is finished; nothing while the line is idle.
     fn due(&self) -> Option<u64> {
-        self.tree.rows[0].head?;
+        self.scheduler.tree.on_line()?;
         self.trips.last().map(|trip| trip.finished)
     }
 
     fn arrive(&mut self, record: &Record) -> Result<(), Refusal> {
         let class = self.capture.class_of(record.code_point());
-        let row = self.row_of(record, class)?;
-        let packet = Packet {
-            place: number_of(self.list.len()),
-            row,
-            length: record.length,
-        };
-        run::arrive(packet, &mut self.tree, &mut self.counts);
-        self.list.push(Some(Arrival {
+        let event = self.arrival_of(record, class)?;
+        let arrival = Arrival {
             record: record.place.record,
             class,
             length: record.length,
             stamp: record.stamp,
-        }));
-        self.note_sent(record.stamp);
+        };
+        self.take(event, Some(arrival), record.stamp);
         Ok(())
     }
 
-    /// The row of the sending class that the record's packet is for.
-    fn row_of(&self, record: &Record, class: u32) -> Result<usize, Refusal> {
-        let number = match decode(self.table, class, record.length) {
-            Ok(Event::Arrival { row, .. }) => return Ok(row),
+    /// The arrival of the record's packet for this class.
+    fn arrival_of(&self, record: &Record, class: u32) -> Result<Event, Refusal> {
+        let number = match decode(self.scheduler.table, class, record.length) {
+            Ok(event @ Event::Arrival { .. }) => return Ok(event),
             // Class 0 with length 0: in a list a finish, which no record is.
             Ok(Event::Finish) => 13,
             Err(number) => number,
@@ -117,9 +102,10 @@ impl<'a> Line<'a> {
         }))
     }
 
-    /// Notes the packet that the last event put on the line at this moment, if it did.
-    fn note_sent(&mut self, moment: u64) {
-        let Some(packet) = self.tree.order.get(self.trips.len()).copied() else {
+    /// Takes an event at this moment, and notes the packet that it puts on the line, if it does.
+    fn take(&mut self, event: Event, arrival: Option<Arrival>, moment: u64) {
+        self.list.push(arrival);
+        let Some(packet) = self.scheduler.take(event) else {
             return;
         };
         if let Some(arrival) = self.list[packet as usize] {
@@ -141,7 +127,8 @@ impl<'a> Line<'a> {
                 None => (0, 0),
             };
         }
-        report::write(&self.tree, &self.counts, self.list.len(), &mut lent);
+        let order = self.trips.iter().map(|trip| trip.packet);
+        report::write(&self.scheduler, order, &mut lent);
     }
 }
 

@@ -8,7 +8,7 @@ use crate::capture::refusals::Refusal;
 use crate::capture::{send, Capture};
 use crate::csv::LINE_END;
 use crate::files::{at_fault, Source};
-use crate::print::answers_text;
+use crate::print::{answers_text, Form};
 use crate::program::{read_argument, read_table, Response};
 use crate::run::MOST_EVENTS;
 use crate::slices::{EventRoom, Room, TableSlices};
@@ -36,7 +36,7 @@ fn read_and_replay(arguments: &[OsString]) -> Result<Response, Response> {
     ];
     let rate = read_argument("RATE", rate)?;
     let bytes = read_capture(capture_file)?;
-    let table = read_table(table_file)?;
+    let table = read_table(Form::Run, table_file)?;
     let capture = Capture {
         bytes: &bytes,
         classes,
@@ -45,7 +45,8 @@ fn read_and_replay(arguments: &[OsString]) -> Result<Response, Response> {
     let results = replay(&capture, &table.slices()).map_err(|refusal| {
         let answer = refusal.answer();
         let file = at_fault(answer.number, table_file, capture_file);
-        Response::refused(file, &[(answer, refusal.sentence(&table.slices()))])
+        let rest = refusal.sentence(&table.slices());
+        Response::refused(Form::Run, file, &[(answer, rest)])
     })?;
     Ok(Response::done(results))
 }
@@ -68,7 +69,8 @@ fn replay(capture: &Capture, table: &TableSlices) -> Result<String, Refusal> {
     let mut list = [vec![0; MOST_EVENTS], vec![0; MOST_EVENTS]];
     let [classes, lengths] = &mut list;
     let trips = send(capture, table, EventRoom { classes, lengths }, room.lend())?;
-    Ok(answers_text([&Answer::done(trips.len())]) + &trips_text(&trips))
+    let answer = Answer::done(trips.len());
+    Ok(answers_text(Form::Run, [&answer]) + &trips_text(&trips))
 }
 
 /// The heading and a line for each packet, in sending order.

@@ -95,6 +95,7 @@ pub const SECOND: &str = env!("CARGO_BIN_EXE_second");
 pub const PROMISE: &str = env!("CARGO_BIN_EXE_promise");
 pub const CAPTURE: &str = env!("CARGO_BIN_EXE_capture");
 pub const TABLE: &str = env!("CARGO_BIN_EXE_table");
+pub const LIVE: &str = env!("CARGO_BIN_EXE_live");
 
 /// Runs `second` with these arguments.
 pub fn program<A: AsRef<OsStr>>(arguments: &[A]) -> Printed {

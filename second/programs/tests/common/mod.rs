@@ -2,7 +2,9 @@
 
 pub mod calls;
 pub mod captures;
+pub mod days;
 pub mod files;
+pub mod live;
 pub mod texts;
 
 use second::{Answer, EventSlices, Room, TableSlices};

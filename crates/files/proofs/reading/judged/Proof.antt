@@ -1,6 +1,6 @@
 -- `judged` meets its contract, by its tests.
 -- Assumes nothing.
-use Rattle.files.proofs.Judged.{unread-none}
+use Rattle.files.proofs.Judging.{unread-none}
 use Rattle.files.specs.Columns.{judged}
 use borrow.Author.Needs.{needs}
 use Rattle.files.proofs.reading.judged.Statement.{statement}

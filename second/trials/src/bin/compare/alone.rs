@@ -4,10 +4,10 @@
 use std::collections::BTreeSet;
 
 use crate::plan::Trial;
-use crate::texts::{put_in_table, NUMBERS};
 use second::{MOST_DEPTH, MOST_EVENTS, WHOLE};
 use trials::{
-    any_share, damage, fresh_identifier, random_table, Case, Files, Random, Row, Shape, SHAPES,
+    any_share, damage, fresh_identifier, put_in_table, random_table, Case, Files, Random, Row,
+    Shape, SHAPES, TEXT_FAULTS,
 };
 
 #[derive(Clone, Copy, Debug)]
@@ -94,7 +94,7 @@ pub fn table_trial(seed: u64, number: usize) -> Trial {
     match kind {
         Text => put_in_table(
             &mut files,
-            NUMBERS[turn(number) % NUMBERS.len()],
+            TEXT_FAULTS[turn(number) % TEXT_FAULTS.len()],
             &mut random,
         ),
         Missing => files.table = None,
@@ -343,7 +343,7 @@ mod tests {
         let texts = (0..TABLES).filter(|number| matches!(ROUND[number % ROUND.len()], Text));
         let turns: Vec<usize> = texts.map(turn).collect();
         assert!(turns.iter().enumerate().all(|(place, turn)| place == *turn));
-        assert!(turns.len() > 10 * NUMBERS.len());
+        assert!(turns.len() > 10 * TEXT_FAULTS.len());
     }
 
     #[test]

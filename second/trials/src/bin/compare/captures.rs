@@ -4,13 +4,12 @@ use std::ffi::OsString;
 
 use crate::plan::Trial;
 use crate::sheets::{unread, zeroed};
-use crate::texts::{put_in_table, NUMBERS};
 use second::MOST_EVENTS;
 use trials::captures::{
     damage_capture, damage_capture_twice, number_pairs, random_capture, CaptureCase, Layout, Pace,
     LAYOUTS, MOST_CAPTURE, MOST_RECORDS, PACES,
 };
-use trials::{any_share, random_table, Files, Random, SHAPES};
+use trials::{any_share, put_in_table, random_table, Files, Random, SHAPES, TEXT_FAULTS};
 
 #[derive(Clone, Copy, Debug)]
 enum Kind {
@@ -172,7 +171,7 @@ fn edit_files(files: &mut Files, kind: Kind, random: &mut Random) {
         Missing => miss(files, random),
         Several => {
             if random.one_in(2) {
-                put_in_table(files, random.pick(&NUMBERS), random);
+                put_in_table(files, random.pick(&TEXT_FAULTS), random);
             }
             if random.one_in(3) {
                 miss(files, random);

@@ -8,14 +8,12 @@ mod captured;
 mod captures;
 mod charged;
 mod edges;
-mod faults;
 mod identifiers;
 mod listed;
 mod octets;
 mod plan;
 mod sheets;
 mod tally;
-mod texts;
 
 use std::ffi::OsString;
 use std::io::{Error, Result};

@@ -2,12 +2,11 @@
 
 use std::mem::discriminant;
 
-use crate::faults::{put_in, Fault, FAULTS};
 use crate::sheets::{sheet_files, Manner};
-use crate::texts::{put_in_table, NUMBERS};
 use second::{MOST_DEPTH, MOST_EVENTS, WHOLE};
 use trials::{
-    damage, damage_twice, random_events, random_table, rounding_case, Case, Files, Random, Shape,
+    damage, damage_twice, put_in, put_in_table, random_events, random_table, rounding_case, Case,
+    Fault, Files, Random, Shape, FAULTS, TEXT_FAULTS,
 };
 
 #[derive(Clone, Copy, Debug)]
@@ -117,7 +116,7 @@ pub fn trial(seed: u64, number: usize, lists: usize) -> Trial {
         Sheet(manner) => sheet(manner, &mut random),
         FaultySheet => sheet(Manner::Faulty(fault_in_turn(number)), &mut random),
         TextSheet => {
-            let fault = NUMBERS[turn(number) % NUMBERS.len()];
+            let fault = TEXT_FAULTS[turn(number) % TEXT_FAULTS.len()];
             sheet(Manner::Text(fault), &mut random)
         }
         _ => run(kind, number, random),
@@ -262,7 +261,7 @@ mod tests {
             matches!(kind, Faulty | FaultySheet | Text(_) | TextSheet)
         };
         let names: BTreeSet<String> = (0..DEFAULT_LISTS).filter(is_faulty).map(name).collect();
-        assert_eq!(names.len(), 2 * FAULTS.len() + 2 * NUMBERS.len());
+        assert_eq!(names.len(), 2 * FAULTS.len() + 2 * TEXT_FAULTS.len());
     }
 
     #[test]

@@ -3,10 +3,11 @@
 use std::ffi::{OsStr, OsString};
 use std::os::unix::ffi::OsStrExt;
 
-use crate::faults::{put_in, Fault, NOT_DIGITS, TOO_LARGE};
-use crate::texts::put_in_table;
 use second::{MOST_BYTES, MOST_EVENTS};
-use trials::{any_share, damage, random_table, Case, Files, Random, Row, Shape, EDGES, SHAPES};
+use trials::{
+    any_share, damage, put_in, put_in_table, random_table, Case, Fault, Files, Random, Row, Shape,
+    EDGES, NOT_DIGITS, SHAPES, TOO_LARGE,
+};
 
 #[derive(Clone, Copy, Debug, PartialEq, Eq)]
 pub enum Manner {
@@ -146,9 +147,8 @@ mod tests {
     use std::fs;
 
     use super::*;
-    use crate::texts::NUMBERS;
     use second::program::Response;
-    use trials::Folder;
+    use trials::{Folder, TEXT_FAULTS};
 
     /// What the second program answers to 300 such files.
     fn answers(manner: Manner) -> Vec<Response> {
@@ -239,7 +239,7 @@ mod tests {
     fn faulty_tables_are_answered_with_their_number() {
         let faulty = answers(Manner::Faulty(Fault::NotDigits));
         assert_eq!(begin(&faulty, "answer,place,second,count\r\n42,"), 300);
-        for number in NUMBERS {
+        for number in TEXT_FAULTS {
             let faulty = answers(Manner::Text(number));
             let wanted = format!("answer,place,second,count\r\n{number},");
             assert_eq!(begin(&faulty, &wanted), 300);

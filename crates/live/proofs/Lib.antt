@@ -1,0 +1,2 @@
+-- How many events one read has at most.
+pub mod Few
