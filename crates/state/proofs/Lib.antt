@@ -2,6 +2,7 @@
 -- its rows asks for; and that the contract leaves no choice.
 pub mod Parts
 pub mod Unfit
+pub mod Filled
 pub mod Opening
 pub mod Loading
 pub mod Unique

@@ -28,9 +28,9 @@ use Rattle.state.specs.Reading.{counts-of, filled, HasLists, Read}
 use Rattle.state.specs.declared.State.{State}
 use Rattle.state.proofs.Parts.{packets-so, rows-decide}
 
--- a state with its sending classes and a verdict
-abbrev marked : State → List Bool → Bool → State
-marked s senders verdict =
+-- a state with another verdict
+abbrev judged-as : State → Bool → State
+judged-as s verdict =
     record {
       identifiers = s .identifiers;
       parents = s .parents;
@@ -46,15 +46,15 @@ marked s senders verdict =
       held = s .held;
       since = s .since;
       «parent_since» = s .«parent_since»;
-      senders = senders;
+      senders = s .senders;
       rows = s .rows;
       packets = s .packets;
       accepted = s .accepted;
       sound = verdict;
     }
 
--- another verdict on it
-pub judged : (live : Live) (s : State) (verdict : Bool) → Opened live s → Opened live (marked s (s .senders) verdict)
+-- another verdict changes nothing else
+pub judged : (live : Live) (s : State) (verdict : Bool) → Opened live s → Opened live (judged-as s verdict)
 judged live s verdict known =
     record {
       rows = known .rows;
@@ -78,7 +78,7 @@ judged live s verdict known =
     }
 
 module _
-    (words : List ℕ) (s : State) (long : state-words ≤ length words) (has : HasLists true true words s) where
+    (words : List ℕ) (s : State) (long : state-words ≤ length words) (has : HasLists words s) where
   abbrev live : Live
   live = live-in words
 
@@ -153,12 +153,12 @@ module _
   shares-so = ap (λ (r : State). r .shares) (has .same)
 
   -- which rows are sending classes
-  pub sending : (senders : List Bool) → trees.Senders n (s .parents) senders → Senders (live .tree) n senders
-  sending senders known = known (live .tree) (sym rows-so) (sym parents-so)
+  sending : Senders (live .tree) n (s .senders)
+  sending = has .sending (live .tree) (sym rows-so) (sym parents-so)
 
-  opened : (senders : List Bool) (verdict : Bool) → Senders (live .tree) n senders → Opened live (marked s senders verdict)
+  opened : Opened live s
   unfolding filled counts-of live-in live-with rows-in
-  opened senders verdict sending =
+  opened =
       record {
         rows = rows-so;
         packets = held-so;
@@ -195,30 +195,28 @@ module _
   packets-same = rw (packets-are, events-so)
 
   pub packets-verdict :
-      (senders : List Bool) (b : Bool) → Senders (live .tree) n senders → PacketsTested words m n senders (2 * s .accepted - m) b → b ≡ packets-so live
-  packets-verdict senders b sending told = told (live .tree) (sym rows-so) sending ∙ packets-same
+      (b : Bool) → PacketsTested words m n (s .senders) (2 * s .accepted - m) b → b ≡ packets-so live
+  packets-verdict b told = told (live .tree) (sym rows-so) sending ∙ packets-same
 
-  ranged : (senders : List Bool) → Senders (live .tree) n senders → packets-so live ≡ true → Ranged words m
-  ranged senders sending pass =
+  ranged : packets-so live ≡ true → Ranged words m
+  ranged pass =
       let is = rows-so in
       let few = few-rows in
       let most = few-accepted in
-      sound-ranged (live .tree) senders (2 * s .accepted - m) words m (subst (λ (k : ℕ). Senders (live .tree) k senders) rows-so sending) (omega arith)
+      sound-ranged (live .tree) (s .senders) (2 * s .accepted - m) words m (subst (λ (k : ℕ). Senders (live .tree) k (s .senders)) rows-so sending) (omega arith)
       (omega arith) (packets-same ∙ pass)
 
   -- ── the whole ──
 
-  pub read-so :
-      (senders : List Bool) (verdict : Bool) → Senders (live .tree) n senders → tree-sound (live .tree) ≡ true
-      → packets-so live ≡ true → Read words (marked s senders verdict)
-  read-so senders verdict sending tree-ok packets-ok =
+  pub read-so : (verdict : Bool) → tree-sound (live .tree) ≡ true → packets-so live ≡ true → Read words (judged-as s verdict)
+  read-so verdict tree-ok packets-ok =
       record {
-        opened = opened senders verdict sending;
+        opened = judged live s verdict opened;
         few-rows = few-rows;
         few-packets = few-packets;
         arrived = arrived;
         few-accepted = few-accepted;
-        ranged = ranged senders sending packets-ok;
+        ranged = ranged packets-ok;
         inside = has .inside;
         decides = rows-decide live (has .few-so) tree-ok packets-ok ∙ ap (λ (k : ℕ). all k (row-sound live)) (sym rows-so);
       }

@@ -1,7 +1,7 @@
 -- A word that is over its limit is in no sound state.
 -- Assumes nothing.
 use Prim.Native.Nat.{ℕ, _+_, _≤_, _<_}
-use mathlib.Core.Path.{_≡_, refl, sym, ap, _∙_}
+use mathlib.Core.Path.{_≡_, sym, ap, _∙_}
 use mathlib.Core.Bool.{Bool, true, false, _&&_, false≢true}
 use mathlib.Core.List.{List}
 use native.Mathlib.Decide.{decLe}
@@ -23,8 +23,7 @@ use Rattle.live_laws.proofs.Tests.{true-both, all-true, true-all}
 use Rattle.live_laws.proofs.Shape.{shaped-in}
 use Rattle.live_laws.proofs.Telling.{few-counted, sound-holds}
 use Rattle.live_laws.proofs.Narrowing.{narrow}
-use Rattle.state.specs.Reading.{counts-of, filled, HasLists}
-use Rattle.state.specs.declared.State.{State}
+use Rattle.state.specs.Reading.{counts-of}
 use Rattle.state.specs.declared.counts.Counts.{Counts}
 use Rattle.state.proofs.Parts.{refuted}
 
@@ -54,12 +53,6 @@ rows-of words counts same = ap (λ (c : Counts). c .rows) same
 pub counted-use :
     (words : List ℕ) (counts : Counts) → state-words ≤ length words → counts ≡ counts-of words → counts .few ≡ true → InUse words (counts .rows)
 counted-use words counts long same pass = in-use words (counts .rows) long (rows-of words counts same) (few-of words counts true same pass)
-
--- the rows of a state whose tree was read
-pub filled-use : (words : List ℕ) (heads longs : Bool) (s : State) → state-words ≤ length words → HasLists heads longs words s → InUse words (s .rows)
-unfolding filled
-filled-use words heads longs s long has =
-    in-use words (s .rows) long (ap (λ (r : State). r .rows) (has .same) ∙ rows-of words (counts-of words) refl) (has .few-so)
 
 -- the words of the first n rows from a place on are at most this
 abbrev at-most : List ℕ → ℕ → ℕ → ℕ → Bool

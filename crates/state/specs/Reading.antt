@@ -12,6 +12,7 @@ use Rattle.live_rules.specs.Layout.{starts-at, finishes-at, virtuals-at, heads-
 use Rattle.live_rules.specs.Layout.{bytes-at, held-at, since-at, parent-since-at}
 use Rattle.live_rules.specs.State.{live-in}
 use Rattle.live_rules.specs.Soundness.{all, row-sound, few, sound}
+use Rattle.soundness.specs.Trees.{Senders}
 use Rattle.holding.specs.Packets.{Ranged}
 use Rattle.holding.specs.Rows.{Inside}
 use Rattle.state.specs.Opened.{Opened}
@@ -35,24 +36,24 @@ counts-of words =
 abbrev pub list-if : Bool → ℕ → ℕ → List ℕ → List ℕ
 list-if read at n words = cond read (rows-at at n words) zeros
 
--- a state whose tree, whose heads, and whose tags and counts were read or not
-unfoldable pub filled : Bool → Bool → Bool → List Bool → Bool → Counts → List ℕ → State
-filled tree heads longs senders verdict counts words =
+-- a state whose lists were read or not
+unfoldable pub filled : Bool → List Bool → Bool → Counts → List ℕ → State
+filled read senders verdict counts words =
     record {
-      identifiers = list-if tree identifiers-at (counts .rows) words;
-      parents = list-if tree parents-at (counts .rows) words;
-      depths = list-if tree depths-at (counts .rows) words;
-      shares = list-if tree shares-at (counts .rows) words;
-      starts = list-if longs starts-at (counts .rows) words;
-      finishes = list-if longs finishes-at (counts .rows) words;
-      virtuals = list-if longs virtuals-at (counts .rows) words;
-      heads = list-if heads heads-at (counts .rows) words;
-      «head_lengths» = list-if heads head-lengths-at (counts .rows) words;
-      «head_classes» = list-if heads head-classes-at (counts .rows) words;
-      bytes = list-if longs bytes-at (counts .rows) words;
-      held = list-if heads held-at (counts .rows) words;
-      since = list-if longs since-at (counts .rows) words;
-      «parent_since» = list-if longs parent-since-at (counts .rows) words;
+      identifiers = list-if read identifiers-at (counts .rows) words;
+      parents = list-if read parents-at (counts .rows) words;
+      depths = list-if read depths-at (counts .rows) words;
+      shares = list-if read shares-at (counts .rows) words;
+      starts = list-if read starts-at (counts .rows) words;
+      finishes = list-if read finishes-at (counts .rows) words;
+      virtuals = list-if read virtuals-at (counts .rows) words;
+      heads = list-if read heads-at (counts .rows) words;
+      «head_lengths» = list-if read head-lengths-at (counts .rows) words;
+      «head_classes» = list-if read head-classes-at (counts .rows) words;
+      bytes = list-if read bytes-at (counts .rows) words;
+      held = list-if read held-at (counts .rows) words;
+      since = list-if read since-at (counts .rows) words;
+      «parent_since» = list-if read parent-since-at (counts .rows) words;
       senders = senders;
       rows = counts .rows;
       packets = counts .packets;
@@ -60,15 +61,16 @@ filled tree heads longs senders verdict counts words =
       sound = verdict;
     }
 
--- a state that has its tree, and the other lists or not; its parents are rows that there can be
-pub record HasLists (heads longs : Bool) (words : List ℕ) (r : State) : Type 0 where
+-- a state that has all its lists: its parents are rows that there can be, and its sending classes are known
+pub record HasLists (words : List ℕ) (r : State) : Type 0 where
   pub few-so : few (live-in words) ≡ true
-  pub same : r ≡ filled true heads longs (r .senders) true (counts-of words) words
+  pub same : r ≡ filled true (r .senders) true (counts-of words) words
   pub inside : Inside (r .parents)
+  pub sending : Senders (r .rows) (r .parents) (r .senders)
 
 -- where the counts are too many or a word is too large, the state is not sound
-abbrev pub Fills : Bool → Bool → List ℕ → State → Type 0
-Fills heads longs words r = (r .sound ≡ false → sound (live-in words) ≡ false) × (r .sound ≡ true → HasLists heads longs words r)
+abbrev pub Fills : List ℕ → State → Type 0
+Fills words r = (r .sound ≡ false → sound (live-in words) ≡ false) × (r .sound ≡ true → HasLists words r)
 
 -- ── the state ──
 

@@ -1,7 +1,7 @@
 // The lists of a state, read from its words. A state stays in one place while its lists are filled, since arrays that are handed on by value are
 // copied each time.
 ghost use mathlib.Core.Path.{_≡_};
-ghost use mathlib.Core.Bool.{true, false, _&&_};
+ghost use mathlib.Core.Bool.{false, _&&_};
 ghost use mathlib.Core.List.{[]};
 ghost use Prim.Native.Nat.{_≤_};
 ghost use lib.ListN as lists;
@@ -40,7 +40,7 @@ const MOST_WORD: u64 = 4294967295;
 
 // A state with these counts and nothing else yet, not sound.
 fn blank(counts: Counts) -> State
-    ensures { λ r. ⌜ r ≡ filled false false false (r .senders) false counts [] ⌝ }
+    ensures { λ r. ⌜ r ≡ filled false (r .senders) false counts [] ⌝ }
 {
     let words = [0u32; MOST_ROWS];
     let longs = [0u64; MOST_ROWS];
@@ -83,10 +83,10 @@ fn all_four(first: bool, second: bool, third: bool, fourth: bool) -> bool
     fourth
 }
 
-// The tree's lists, where the counts are as many as there can be; where a word is too large, the state is not sound.
-fn with_tree(words: &[u64]) -> State
+// All lists and the sending classes, where the counts are as many as there can be; where a word is too large, the state is not sound.
+pub fn with_lists(words: &[u64]) -> State
     requires { ⌜ state-words ≤ lists.length (now words) ⌝ }
-    ensures { λ r. ⌜ Fills false false (now (words .entry)) r ⌝ }
+    ensures { λ r. ⌜ Fills (now (words .entry)) r ⌝ }
 {
     let counts = counts_in(words);
     let mut state = blank(counts);
@@ -99,46 +99,25 @@ fn with_tree(words: &[u64]) -> State
     let second = fill_words(words, PARENTS_AT, n, LAST_ROW, &mut state.parents);
     let third = fill_words(words, DEPTHS_AT, n, MOST_DEPTH as u64, &mut state.depths);
     let fourth = fill_words(words, SHARES_AT, n, WHOLE as u64, &mut state.shares);
-    let fit = all_four(first, second, third, fourth);
-    state.sound = fit;
-    state
-}
-
-// The heads, and what is held.
-fn with_heads(words: &[u64]) -> State
-    requires { ⌜ state-words ≤ lists.length (now words) ⌝ }
-    ensures { λ r. ⌜ Fills true false (now (words .entry)) r ⌝ }
-{
-    let mut state = with_tree(words);
-    if !state.sound {
+    if !all_four(first, second, third, fourth) {
         return state;
     }
-    let n = state.rows;
     let most = MOST_BYTES as u64;
     let first = fill_words(words, HEADS_AT, n, MOST_WORD, &mut state.heads);
     let second = fill_words(words, HEAD_LENGTHS_AT, n, most, &mut state.head_lengths);
     let third = fill_words(words, HEAD_CLASSES_AT, n, LAST_ROW, &mut state.head_classes);
     let fourth = fill_words(words, HELD_AT, n, MOST_HELD as u64, &mut state.held);
-    let fit = all_four(first, second, third, fourth);
-    state.sound = fit;
-    state
-}
-
-// Tags and counts, which are words of 64 bits.
-pub fn with_lists(words: &[u64]) -> State
-    requires { ⌜ state-words ≤ lists.length (now words) ⌝ }
-    ensures { λ r. ⌜ Fills true true (now (words .entry)) r ⌝ }
-{
-    let mut state = with_heads(words);
-    if !state.sound {
+    if !all_four(first, second, third, fourth) {
         return state;
     }
-    let n = state.rows;
     fill_longs(words, STARTS_AT, n, &mut state.starts);
     fill_longs(words, FINISHES_AT, n, &mut state.finishes);
     fill_longs(words, VIRTUALS_AT, n, &mut state.virtuals);
     fill_longs(words, BYTES_AT, n, &mut state.bytes);
     fill_longs(words, SINCE_AT, n, &mut state.since);
     fill_longs(words, PARENT_SINCE_AT, n, &mut state.parent_since);
+    let senders = soundness::senders_of(n, &state.parents);
+    state.senders = senders;
+    state.sound = true;
     state
 }

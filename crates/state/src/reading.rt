@@ -15,8 +15,6 @@ pub fn read(words: &[u64]) -> State
         return state;
     }
     let n = state.rows;
-    let senders = soundness::senders_of(n, &state.parents);
-    state.senders = senders;
     state.sound = false;
     if !soundness::tree_sound(
         n,
@@ -29,7 +27,7 @@ pub fn read(words: &[u64]) -> State
     }
     let m = state.packets;
     let events = 2 * state.accepted - m as u64;
-    let sound = holding::packets_sound(words, m, n, &senders, events);
+    let sound = holding::packets_sound(words, m, n, &state.senders, events);
     state.sound = sound;
     state
 }
