@@ -94,12 +94,24 @@ fn parts(rows: usize, held: usize, runs: usize) -> String {
         assert_eq!(linked::event(black_box(&mut live), class, length), 0);
     });
     let mut live = state(rows, held);
-    let tested = best(runs, |_| assert_eq!(linked::event(black_box(&mut live), NOBODY, 1), 11));
+    let tested = best(runs, |_| {
+        assert_eq!(linked::event(black_box(&mut live), NOBODY, 1), 11)
+    });
     live[ROOT_PARENT] = 1;
-    let read = best(runs, |_| assert_eq!(linked::event(black_box(&mut live), NOBODY, 1), 20));
+    let read = best(runs, |_| {
+        assert_eq!(linked::event(black_box(&mut live), NOBODY, 1), 20)
+    });
     let written = best(runs, |_| linked::write(black_box(&mut live), rows));
-    let shown = [taken, read, tested - read, taken - tested - written, written];
-    shown.map(|time| format!("{:.2} |", time / 1000.0)).join(" ")
+    let shown = [
+        taken,
+        read,
+        tested - read,
+        taken - tested - written,
+        written,
+    ];
+    shown
+        .map(|time| format!("{:.2} |", time / 1000.0))
+        .join(" ")
 }
 
 #[cfg(test)]
