@@ -2,7 +2,7 @@
 -- Assumes nothing.
 use Prim.Native.Nat.{ℕ}
 use mathlib.Core.Path.{_≡_}
-use mathlib.Core.Bool.{Bool, true}
+use mathlib.Core.Bool.{true}
 use mathlib.Core.List.{List}
 use Rattle.live_rules.specs.Layout.{identifiers-at, parents-at, depths-at, shares-at, rows-at}
 use Rattle.live_rules.specs.Layout.{starts-at, finishes-at, virtuals-at, heads-at, head-lengths-at, head-classes-at}

@@ -1,27 +1,22 @@
 -- A state whose lists were all read is the state in the words, and its parts are tested.
 -- Assumes nothing.
 use Prim.Native.Nat.{ℕ, _*_, _-_, _≤_, _<_}
-use mathlib.Core.Path.{_≡_, refl, sym, ap, ap₂, subst, _∙_}
-use mathlib.Core.Bool.{Bool, true, false, _&&_}
+use mathlib.Core.Path.{_≡_, sym, ap, ap₂, subst, _∙_}
+use mathlib.Core.Bool.{Bool, true, _&&_}
 use mathlib.Core.List.{List}
-use native.Mathlib.Decide.{decLe}
 use native.Mathlib.Omega.{arith}
 use lib.ListN.{length, getD, take}
 use Rattle.input.specs.Limits.{most-rows}
-use Rattle.input.specs.Classes.{Tree}
 use Rattle.input.specs.Lent.{tree-with}
 use Rattle.live_rules.specs.Limits.{most-held, most-accepted}
-use Rattle.live_rules.specs.Layout.{rows-word, identifiers-at, parents-at, held-at, state-words, rows-at}
+use Rattle.live_rules.specs.Layout.{rows-word, identifiers-at, state-words}
 use Rattle.live_rules.specs.State.{Live, packets-at, tree-in, rows-in, live-with, live-in, events}
 use Rattle.live_rules.specs.Soundness.{all, few, tree-sound, packets-sound, in-order, row-sound}
-use Rattle.live_rules.proofs.Rows.{rows-first, rows-zero}
+use Rattle.live_rules.proofs.Rows.{rows-first}
 use Rattle.live_rules.proofs.Packets.{packets-length}
 use Rattle.live_laws.specs.Holds as holds
 use Rattle.live_laws.proofs.Telling.{few-counted}
-use Rattle.soundness.specs.Trees as trees
-use Rattle.soundness.proofs.Parts.{sound-inside}
 use Rattle.holding.specs.Packets.{Senders, PacketsTested, Ranged}
-use Rattle.holding.specs.Rows.{Inside}
 use Rattle.holding.proofs.Fitting.{sound-ranged}
 use Rattle.state.specs.Opened.{Opened}
 use Rattle.state.specs.Reading.{counts-of, filled, HasLists, Read}

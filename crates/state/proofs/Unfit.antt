@@ -17,12 +17,12 @@ use Rattle.live_rules.specs.State.{tree-in, rows-in, live-with, live-in}
 use Rattle.live_rules.specs.Soundness.{all, few, sound}
 use Rattle.live_rules.proofs.Stretches.{words-get}
 use Rattle.live_rules.proofs.Rows.{rows-get, rows-zero}
-use Rattle.holding.specs.Rows.{Inside}
 use Rattle.live_laws.specs.Narrow.{Narrow}
 use Rattle.live_laws.proofs.Tests.{true-both, all-true, true-all}
 use Rattle.live_laws.proofs.Shape.{shaped-in}
 use Rattle.live_laws.proofs.Telling.{few-counted, sound-holds}
 use Rattle.live_laws.proofs.Narrowing.{narrow}
+use Rattle.holding.specs.Rows.{Inside}
 use Rattle.state.specs.Reading.{counts-of}
 use Rattle.state.specs.declared.counts.Counts.{Counts}
 use Rattle.state.proofs.Parts.{refuted}

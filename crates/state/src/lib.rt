@@ -29,7 +29,7 @@ pub struct State {
     pub since: RowLongs,
     pub parent_since: RowLongs,
     pub senders: RowMarks,
-    // how many rows are in use, and how many packets are held and were accepted; behind the arrays, since they would be copied otherwise
+    // Rows in use, packets held and packets accepted. They stand behind the arrays: before them, the compiled code copies the arrays more often.
     pub rows: usize,
     pub packets: usize,
     pub accepted: u64,

@@ -1,13 +1,13 @@
 -- `state::open` meets its contract: what was read decides, then the rows.
 -- Assumes nothing.
+use mathlib.Core.Bool.{true, false, false≢true}
+use mathlib.Core.Path.{sym, _∙_}
+use native.Mathlib.Omega.{arith}
+use borrow.Author.Tests.{not-true, not-false}
+use borrow.Author.Needs.{needs}
+use Rattle.live_rules.specs.State.{live-in}
 use Rattle.state.proofs.Loading.{loaded}
 use Rattle.state.proofs.Opening.{judged}
-use Rattle.live_rules.specs.State.{live-in}
-use borrow.Author.Tests.{not-true, not-false}
-use mathlib.Core.Bool.{true, false, false≢true}
-use mathlib.Core.Path.{_≡_, sym, ap, _∙_}
-use native.Mathlib.Omega.{arith}
-use borrow.Author.Needs.{needs}
 use Rattle.state.proofs.open.Statement.{statement}
 use Rattle.state.proofs.open.Tie as tie
 

@@ -1,14 +1,12 @@
 -- `state::counts::counts_in` meets its contract: the three words, and the test of them.
 -- Assumes nothing.
-use Rattle.state.specs.Reading.{counts-of}
+use borrow.Author.Needs.{needs}
+use lib.ListN.{getD}
 use Rattle.live_rules.proofs.Packets.{packets-length}
 use Rattle.live_rules.specs.Soundness.{few}
 use Rattle.live_rules.specs.State.{tree-in, live-with, live-in}
 use Rattle.live_rules.specs.Layout.{held-at}
-use lib.ListN.{getD}
-use mathlib.Core.Path.{_≡_}
-use native.Mathlib.Omega.{arith}
-use borrow.Author.Needs.{needs}
+use Rattle.state.specs.Reading.{counts-of}
 use Rattle.state.proofs.counts.counts_in.Statement.{statement}
 use Rattle.state.proofs.counts.counts_in.Tie as tie
 

@@ -1,8 +1,6 @@
 -- `state::filling::all_four` meets its contract: the first that is false decides.
 -- Assumes nothing.
 use borrow.Author.Tests.{not-true, not-false}
-use native.Mathlib.Omega.{arith}
-use borrow.Author.Needs.{needs}
 use Rattle.state.proofs.filling.all_four.Statement.{statement}
 use Rattle.state.proofs.filling.all_four.Tie as tie
 

@@ -1,10 +1,8 @@
 -- `state::filling::blank` meets its contract.
 -- Assumes nothing.
-use Rattle.state.specs.Reading.{filled}
-use Rattle.input.specs.Classes.{zeros}
 use mathlib.Core.Path.{refl}
-use native.Mathlib.Omega.{arith}
-use borrow.Author.Needs.{needs}
+use Rattle.input.specs.Classes.{zeros}
+use Rattle.state.specs.Reading.{filled}
 use Rattle.state.proofs.filling.blank.Statement.{statement}
 use Rattle.state.proofs.filling.blank.Tie as tie
 

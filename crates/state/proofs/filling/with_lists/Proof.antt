@@ -1,17 +1,17 @@
 -- `state::filling::with_lists` meets its contract: a word that is too large is in no sound state, and else list by list.
 -- Assumes nothing.
-use Rattle.state.proofs.Unfit.{few-of, counted-use, tree-unfit, heads-unfit, inside-so}
+use mathlib.Core.Bool.{true, false, false≢true}
+use mathlib.Core.Path.{refl, sym, ap, _∙_}
+use native.Mathlib.Omega.{arith}
+use borrow.Author.Tests.{not-true, not-false}
+use borrow.Author.Needs.{needs}
+use Rattle.live_rules.specs.State.{live-in}
 use Rattle.state.specs.declared.counts.Counts.{Counts}
-use Rattle.state.proofs.Filled.{lists-filled}
-use Rattle.state.proofs.Parts.{four-true, few-fails}
 use Rattle.state.specs.declared.State.{State}
 use Rattle.state.specs.Reading.{filled}
-use Rattle.live_rules.specs.State.{live-in}
-use borrow.Author.Tests.{not-true, not-false}
-use mathlib.Core.Bool.{true, false, false≢true}
-use mathlib.Core.Path.{_≡_, refl, sym, ap, _∙_}
-use native.Mathlib.Omega.{arith}
-use borrow.Author.Needs.{needs}
+use Rattle.state.proofs.Unfit.{few-of, counted-use, tree-unfit, heads-unfit, inside-so}
+use Rattle.state.proofs.Filled.{lists-filled}
+use Rattle.state.proofs.Parts.{four-true, few-fails}
 use Rattle.state.proofs.filling.with_lists.Statement.{statement}
 use Rattle.state.proofs.filling.with_lists.Tie as tie
 

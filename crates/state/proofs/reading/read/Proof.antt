@@ -1,13 +1,13 @@
 -- `state::reading::read` meets its contract: the lists decide, then the tree, then the packets, and what is left is for the rows.
 -- Assumes nothing.
+use mathlib.Core.Bool.{true, false, false≢true}
+use mathlib.Core.Path.{sym, _∙_}
+use native.Mathlib.Omega.{arith}
+use borrow.Author.Tests.{not-true, not-false}
+use borrow.Author.Needs.{needs}
+use Rattle.live_rules.specs.State.{live-in}
 use Rattle.state.proofs.Opening.{some-rows, few-rows, few-packets, arrived, few-accepted, tree-same, packets-verdict, read-so}
 use Rattle.state.proofs.Parts.{tree-fails, packets-fail}
-use Rattle.live_rules.specs.State.{live-in}
-use borrow.Author.Tests.{not-true, not-false}
-use mathlib.Core.Bool.{true, false, false≢true}
-use mathlib.Core.Path.{_≡_, sym, ap, _∙_}
-use native.Mathlib.Omega.{arith}
-use borrow.Author.Needs.{needs}
 use Rattle.state.proofs.reading.read.Statement.{statement}
 use Rattle.state.proofs.reading.read.Tie as tie
 
