@@ -57,12 +57,13 @@ pub fn changes(words: &[u64], random: &mut Random) -> Vec<Change> {
     all
 }
 
-/// The word as 0, all ones, one more and one less, another word, and what is just sound or just not
-/// any more.
+/// The word as 0, all ones, one more and one less, the same in its low 32 bits, another word, and what
+/// is just sound or just not any more.
 fn of_one(words: &[u64], place: usize, other: u64) -> Vec<Change> {
     let word = words[place];
     let [more, less] = [word.wrapping_add(1), word.wrapping_sub(1)];
-    let plain = [0, u64::MAX, more, less, other].map(|word| vec![(place, word)]);
+    let same_below = word ^ (1 << 32);
+    let plain = [0, u64::MAX, more, less, same_below, other].map(|word| vec![(place, word)]);
     let mut all: Vec<Change> = plain.into_iter().chain(edges(words, &[place])).collect();
     all.sort();
     all.dedup();

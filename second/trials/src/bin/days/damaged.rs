@@ -49,10 +49,12 @@ pub fn wholes() -> Vec<Whole> {
         packet(3, 1),
     ];
     let idle = [&busy[..], &[FINISH; 5]].concat();
+    let in_part = [packet(3, 50), packet(5, 100), FINISH, FINISH, packet(4, 7)];
     let mut all = vec![
         Whole::new("fresh", &rows, state_after(&rows, &[])),
         Whole::new("busy", &rows, state_after(&rows, &busy)),
         Whole::new("idle again", &rows, state_after(&rows, &idle)),
+        Whole::new("idle in part", &rows, state_after(&rows, &in_part)),
     ];
     for (name, great) in [("few to come", false), ("great tags", true)] {
         let mut words = state_after(&rows, &busy);
