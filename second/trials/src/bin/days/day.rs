@@ -117,6 +117,8 @@ struct Day<'a> {
     order: Vec<u32>,
     /// Refusals so far.
     refused: Vec<u32>,
+    /// Whether these are all events since the fresh state.
+    known: bool,
 }
 
 impl<'a> Day<'a> {
@@ -136,6 +138,7 @@ impl<'a> Day<'a> {
             accepted: Vec::new(),
             order: Vec::new(),
             refused: Vec::new(),
+            known: !matches!(kind, Last | Great | Wandered),
         };
         day.change(fill)?;
         Ok(day)
@@ -211,11 +214,12 @@ impl<'a> Day<'a> {
             _ => return wrong("live events", &whole_print(&printed)),
         }
         match fault {
-            // Which events were taken is not known then, so that no run can be compared.
-            true => self.kind = Wandered,
-            false => self.note(events, &printed)?,
+            true => {
+                self.known = false;
+                Ok(())
+            }
+            false => self.note(events, &printed),
         }
-        Ok(())
     }
 
     fn text(&mut self, events: &[Event]) -> Vec<u8> {
@@ -265,7 +269,7 @@ impl<'a> Day<'a> {
     /// they did.
     fn replay(mut self) -> Tried<()> {
         let printed = self.report()?;
-        if matches!(self.kind, Last | Great | Wandered) || self.accepted.len() > MOST_EVENTS {
+        if !self.known || self.accepted.len() > MOST_EVENTS {
             return Ok(());
         }
         let case = Case {
