@@ -13,7 +13,7 @@ use Rattle.input.specs.Classes.{Tree, sends}
 use Rattle.live_rules.specs.State.{Held, packets-at}
 use Rattle.live_rules.specs.Soundness.{all, packet-sound, packets-sound, in-order}
 use Rattle.holding.specs.Packets.{class-at, length-at, name-at, packet-at, Senders, fits, least-at, fits-at, Ranged}
-use Rattle.holding.proofs.All.{all-each}
+use Rattle.live_rules.proofs.Alls.{all-true}
 
 no : false ≡ true → ⊥
 no e = subst T (sym e) tt
@@ -166,4 +166,4 @@ sound-ranged tree senders limit words m marked few small holds =
         → (class-at words i < tree .rows) × (0 < length-at words i) × (length-at words i ≤ most-bytes) × (name-at words i < limit)
     bounds i below =
         fits-bounds (tree .rows) senders limit (least-at words i) (class-at words i) (length-at words i) (name-at words i)
-        (all-each (fits-at (tree .rows) senders limit words) i m below (packets-fit tree (tree .rows) senders refl marked limit words m ∙ holds))
+        (all-true m (fits-at (tree .rows) senders limit words) (packets-fit tree (tree .rows) senders refl marked limit words m ∙ holds) i below)

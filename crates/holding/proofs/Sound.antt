@@ -18,7 +18,8 @@ use Rattle.live_rules.specs.Soundness.{all, headed, first-headed, sender-sound,
 use Rattle.holding.specs.Packets.{first-word, first-size}
 use Rattle.holding.specs.Row.{same-head, sender-test, inner-test, tags-test, most-at, tag-at, sizes-test, counts-test}
 use Rattle.holding.specs.Rows.{senders-tested, inners-tested, tags-tested, sizes-tested, counts-tested, Loaded}
-use Rattle.holding.proofs.All.{all-same, all-both}
+use Rattle.live_rules.proofs.Alls.{all-same}
+use Rattle.holding.proofs.All.{all-both}
 
 -- ── each test, of a live state's own lists ──
 
@@ -153,7 +154,7 @@ module _ {n left : ℕ} {parents shares : List ℕ} {senders : List Bool} {start
       let tags-test = tags-tested shares starts finishes heads head-lengths in
       let sizes-test = sizes-tested left parents starts finishes virtuals heads head-classes in
       let counts-test = counts-tested left parents bytes since parent-since in
-      all-same (row-sound live) (λ r. senders-test r && (inners-test r && (tags-test r && (sizes-test r && counts-test r)))) n row-so
+      all-same n (row-sound live) (λ r. senders-test r && (inners-test r && (tags-test r && (sizes-test r && counts-test r)))) row-so
       ∙ all-both senders-test (λ r. inners-test r && (tags-test r && (sizes-test r && counts-test r))) n
       ∙ ap (λ (b : Bool). all n senders-test && b)
       (all-both inners-test (λ r. tags-test r && (sizes-test r && counts-test r)) n

@@ -21,7 +21,7 @@ use Rattle.live_rules.specs.Limits.{most-held, most-accepted}
 use Rattle.live_rules.specs.State.{Live, queue, box-of, gone, events}
 use Rattle.live_rules.specs.Soundness.{all, few, tree-sound, packets-sound, in-order, holding-sound, tags-sound, sizes-sound, counts-sound, row-sound, sound}
 use Rattle.live_laws.specs.Holds.{RowsRowed, Shaped, Fitting, Counted, Holds}
-use Rattle.live_laws.proofs.Tests.{both-true, true-both, all-true, true-all}
+use Rattle.live_rules.proofs.Alls.{both-true, true-both, all-true, true-all}
 use Rattle.live_laws.proofs.TellingTree.{tree-holds, holds-tree}
 use Rattle.live_laws.proofs.Queues.{queues-length, queues-at}
 use Rattle.live_laws.proofs.TellingPackets.{packets-fit, fit-packets, fit-order, queue-in-line}

@@ -23,7 +23,8 @@ use Rattle.laws.proofs.tree.Depths.{sender-or-inner, from-children}
 use Rattle.laws.proofs.event.Holding.{sum-term}
 use Rattle.live_rules.specs.State.{Live, queue}
 use Rattle.live_rules.specs.Soundness.{any, children-sum, headed, first-headed, sender-sound, took-child, inner-sound, holding-sound}
-use Rattle.live_laws.proofs.Tests.{both-true, true-both, any-true, true-any}
+use Rattle.live_rules.proofs.Alls.{both-true, true-both, true-any}
+use Rattle.live_laws.proofs.Tests.{any-true}
 
 -- what p's children have in a list, as the test and as the laws add it up
 pub children-of : (tree : Tree) (xs : List ℕ) (p n : ℕ) → children-sum tree xs p n ≡ sum n (λ j. cond (child tree p j) (getD xs j 0) 0)

@@ -19,7 +19,7 @@ use Rattle.laws.proofs.event.Queues.{in-line-wider}
 use Rattle.live_rules.specs.State.{Held, queue, queues}
 use Rattle.live_rules.specs.Soundness.{packet-sound, packets-sound, in-order}
 use Rattle.live_laws.specs.Holds.{Fitting}
-use Rattle.live_laws.proofs.Tests.{both-true, true-both}
+use Rattle.live_rules.proofs.Alls.{both-true, true-both}
 
 -- ── the test ──
 

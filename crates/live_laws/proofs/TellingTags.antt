@@ -22,7 +22,7 @@ use Rattle.laws.proofs.tree.Paths.{its-parent, parent-is-inner, one-child}
 use Rattle.laws.proofs.tree.Depths.{sender-or-inner}
 use Rattle.live_rules.specs.State.{Live, box-of, gone}
 use Rattle.live_rules.specs.Soundness.{tags-sound, untaken, sizes-sound, counts-sound, level-most as most-at}
-use Rattle.live_laws.proofs.Tests.{both-true, true-both}
+use Rattle.live_rules.proofs.Alls.{both-true, true-both}
 
 -- ── tags ──
 

@@ -12,7 +12,7 @@ use Rattle.input.specs.Shares.{allowed}
 use Rattle.input.specs.Classes.{Tree, parent, depth, share, row-of, children-share}
 use Rattle.live_rules.specs.Soundness.{all, children-sum, named, root-sound, class-sound, tree-sound}
 use Rattle.live_laws.specs.Holds.{Treed}
-use Rattle.live_laws.proofs.Tests.{both-true, true-both, all-true, true-all}
+use Rattle.live_rules.proofs.Alls.{both-true, true-both, all-true, true-all}
 
 is-true : (b : Bool) → b ≡ true → T b
 is-true b pass = subst T (sym pass) tt

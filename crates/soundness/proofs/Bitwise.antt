@@ -3,7 +3,7 @@
 use Prim.Native.Nat.{ℕ, zero, suc, _+_, _*_, _/_, _%_, _^_, _<_}
 use mathlib.Core.Path.{_≡_, refl, sym, ap, _∙_}
 use mathlib.Core.Logic.{_≢_}
-use mathlib.Core.Bool.{false, _||_}
+use mathlib.Core.Bool.{false, _||_, or-true}
 use mathlib.Core.List.{List}
 use native.Mathlib.Decide.{ℕ-discrete}
 use native.Mathlib.Nat.{pow-suc, one-mul}
@@ -15,7 +15,7 @@ use lib.ListN.{length, getD, set}
 use lib.Pow.{shr-shr, shl-exact}
 use lib.Seq.{getD-set-same, getD-set-other}
 use Rattle.soundness.specs.Bits.{word-bits, bit, met}
-use Rattle.soundness.proofs.Alls.{or-true, or-false}
+use Rattle.soundness.proofs.Alls.{or-false}
 
 -- ── one word ──
 

@@ -15,7 +15,9 @@ use Rattle.input.specs.Limits.{most-identifier}
 use Rattle.input.specs.Classes.{Tree, place-of, row-of}
 use Rattle.live_rules.specs.Soundness.{any, named}
 use Rattle.soundness.specs.Bits.{word-bits, table-words, bit, met}
-use Rattle.soundness.proofs.Alls.{any-true, any-false, zero-words}
+use Rattle.laws.proofs.event.Outset.{replicate-at}
+use Rattle.live_rules.proofs.Alls.{true-any}
+use Rattle.soundness.proofs.Alls.{any-false}
 
 -- an earlier row has x
 unfoldable pub earlier-has : List ℕ → ℕ → ℕ → Bool
@@ -78,7 +80,7 @@ first-test x xs r inside here (inl f) =
     let most = place-most x xs (f .at) (omega (arith, f .before)) (f .here) in
     rw (
       ne-eqb (place-of x xs) r (λ e. absurd (omega (arith, f .before))),
-      any-true r (λ q. eqb (getD xs q 0) x) (f .at) (f .before) (eq-eqb (getD xs (f .at) 0) x (f .here)),
+      true-any r (λ q. eqb (getD xs q 0) x) (f .at) (f .before) (eq-eqb (getD xs (f .at) 0) x (f .here)),
     )
 first-test x xs r inside here (inr none) =
     rw (
@@ -126,7 +128,7 @@ zero-bits (suc k) = zero-bits k
 -- an empty table has met none
 pub met-start : (ids : List ℕ) (x : ℕ) → met (replicate table-words 0) x ≡ earlier-has ids 0 x
 unfolding met earlier-has any
-met-start ids x = rw (zero-words table-words (x / word-bits), zero-bits (x % word-bits))
+met-start ids x = rw (replicate-at {A = ℕ} table-words (x / word-bits) 0, zero-bits (x % word-bits))
 
 -- the test that the walk makes of row r
 pub newly-test : (ids table : List ℕ) (r : ℕ) → ((x : ℕ) → met table x ≡ earlier-has ids r x)

@@ -11,7 +11,8 @@ use Rattle.input.specs.Shares.{allowed}
 use Rattle.input.specs.Classes.{Tree, parent, depth, share}
 use Rattle.live_rules.specs.Soundness.{all, named, root-sound, class-sound, children-sum, tree-sound}
 use Rattle.soundness.specs.Trees.{Inside}
-use Rattle.soundness.proofs.Alls.{both-left, both-right, all-at}
+use Rattle.live_rules.proofs.Alls.{all-true}
+use Rattle.soundness.proofs.Alls.{both-left, both-right}
 
 module _ (tree : Tree) where
   abbrev pub classes : Bool
@@ -48,7 +49,7 @@ module _ (tree : Tree) where
       let top = eqb-true (parent tree 0) 0 (both-left (eqb (parent tree 0) 0) (eqb (depth tree 0) 0 && eqb (share tree 0) 0) root) in
       omega arith
   parents-inside root rows (suc r) inside =
-      let passed = all-at (tree .rows) (λ q. eqb q 0 || class-sound tree q) rows (suc r) inside in
+      let passed = all-true (tree .rows) (λ q. eqb q 0 || class-sound tree q) rows (suc r) inside in
       class-inside (suc r) (rw (ne-eqb (suc r) 0 (λ e. absurd (omega arith))) at passed)
 
   -- of a sound tree the parents are rows that there can be

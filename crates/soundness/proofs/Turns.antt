@@ -2,7 +2,7 @@
 -- Assumes nothing.
 use Prim.Native.Nat.{ℕ, zero, suc, _+_, _≤_, _<_, max}
 use mathlib.Core.Path.{_≡_, refl, sym, ap}
-use mathlib.Core.Bool.{Bool, true, false, not, cond, _&&_, _||_}
+use mathlib.Core.Bool.{Bool, true, false, not, cond, _&&_, _||_, and-false, or-true}
 use mathlib.Core.List.{List}
 use native.Mathlib.Decide.{ℕ-discrete}
 use native.Mathlib.Omega.{arith}
@@ -13,7 +13,7 @@ use lib.Seq.{getD-set-same, getD-set-other}
 use Rattle.input.specs.Limits.{most-rows}
 use Rattle.input.specs.Classes.{Tree, parent, child, has-child, sends}
 use Rattle.live_rules.specs.Soundness.{children-sum}
-use Rattle.soundness.proofs.Alls.{or-true, or-false, and-false}
+use Rattle.soundness.proofs.Alls.{or-false}
 
 -- row r, which is not the root, is a child of p where p is its parent
 child-is : (tree : Tree) (p r : ℕ) → 0 < r → child tree p r ≡ eqb (parent tree r) p

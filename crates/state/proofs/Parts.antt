@@ -4,7 +4,7 @@ use mathlib.Core.Path.{_≡_, refl, sym, ap, _∙_}
 use mathlib.Core.Bool.{Bool, true, false, _&&_, and-assoc}
 use Rattle.live_rules.specs.State.{Live, events}
 use Rattle.live_rules.specs.Soundness.{all, few, tree-sound, packets-sound, in-order, row-sound, sound}
-use Rattle.live_laws.proofs.Tests.{both-true}
+use Rattle.live_rules.proofs.Alls.{both-true}
 
 -- what cannot be true is false
 pub refuted : (b : Bool) → (b ≡ true → ⊥) → b ≡ false

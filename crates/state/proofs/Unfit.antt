@@ -18,7 +18,7 @@ use Rattle.live_rules.specs.Soundness.{all, few, sound}
 use Rattle.live_rules.proofs.Stretches.{words-get}
 use Rattle.live_rules.proofs.Rows.{rows-get, rows-zero}
 use Rattle.live_laws.specs.Narrow.{Narrow}
-use Rattle.live_laws.proofs.Tests.{true-both, all-true, true-all}
+use Rattle.live_rules.proofs.Alls.{true-both, all-true, true-all}
 use Rattle.live_laws.proofs.Shape.{shaped-in}
 use Rattle.live_laws.proofs.Telling.{few-counted, sound-holds}
 use Rattle.live_laws.proofs.Narrowing.{narrow}

@@ -10,7 +10,8 @@ use Rattle.input.specs.Classes.{zeros}
 use Rattle.live_rules.specs.Layout.{rows-at}
 use Rattle.live_rules.specs.Soundness.{all}
 use Rattle.live_rules.proofs.Rows.{rows-none}
-use Rattle.storing.proofs.Turns.{read-turn, all-none, all-more, all-fails}
+use Rattle.live_rules.proofs.Alls.{all-none, all-more, all-fails}
+use Rattle.storing.proofs.Turns.{read-turn}
 use native.Mathlib.Omega.{arith}
 use borrow.Author.Needs.{needs}
 use Rattle.storing.proofs.fill_words.Statement.{statement}

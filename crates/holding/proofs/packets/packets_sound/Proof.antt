@@ -7,7 +7,7 @@ use native.Mathlib.Numerals.{add-one}
 use borrow.Author.Tests.{not-true, not-false}
 use Rattle.live_rules.specs.Soundness.{all}
 use Rattle.holding.specs.Packets.{fits-at, least-at}
-use Rattle.holding.proofs.All.{all-stops}
+use Rattle.live_rules.proofs.Alls.{all-fails}
 use Rattle.holding.proofs.Fitting.{packets-fit, fits-turn, fits-bounds}
 use native.Mathlib.Omega.{arith}
 use borrow.Author.Needs.{needs}
@@ -61,7 +61,7 @@ returns c =
     λ tree same marked.
     let fails = fits-turn (s .n) (s .senders .now) (s .limit) (s .words .now) (at .i) (at .least) (at .inv .1)
     ∙ sym (c .before .fits2 .ensures) ∙ not-true (c .before .fits2 .result) (c .if1 .taken) in
-    sym (all-stops (fits-at (s .n) (s .senders .now) (s .limit) (s .words .now)) (at .i) (s .m) (omega arith) fails)
+    sym (all-fails (s .m) (fits-at (s .n) (s .senders .now) (s .limit) (s .words .now)) (at .i) (omega arith) fails)
     ∙ packets-fit tree (s .n) (s .senders .now) same marked (s .limit) (s .words .now) (s .m)
 
 add-least : tie.Need-add-least Inv-loop μ-loop

@@ -12,7 +12,8 @@ use lib.ListN.{length, getD}
 use Rattle.input.specs.Limits.{most-identifier}
 use Rattle.live_rules.specs.Soundness.{all, named}
 use Rattle.soundness.specs.Bits.{table-words, met}
-use Rattle.soundness.proofs.Alls.{all-more, all-false, all-same, both-left, both-right}
+use Rattle.live_rules.proofs.Alls.{all-next, all-fails, all-same}
+use Rattle.soundness.proofs.Alls.{both-left, both-right}
 use Rattle.soundness.proofs.Names.{earlier-has, newly, named-newly, newly-test, met-start, met-turn}
 use Rattle.soundness.proofs.tree.all_named.Statement.{statement}
 use Rattle.soundness.proofs.tree.all_named.Tie as tie
@@ -44,7 +45,7 @@ returns c tree e1 e2 =
     let n = at .before .args .n in
     let r = at .loop .r in
     let this = sym (newly-test ids (at .loop .table) r (at .loop .inv .3)) ∙ sym (c .before .is-new .ensures) ∙ not-true (c .before .is-new .result) (c .if1 .taken) in
-    sym (all-same n (named tree) (newly ids) (λ q inside. named-newly tree ids n q e2 inside) ∙ all-false n (newly ids) r (omega arith) this)
+    sym (all-same n (named tree) (newly ids) (λ q inside. named-newly tree ids n q e2 inside) ∙ all-fails n (newly ids) r (omega arith) this)
 
 meet-requires : tie.Need-meet-requires Inv-loop μ-loop
 meet-requires c κs =
@@ -71,7 +72,7 @@ loop-again c =
     let this = sym (newly-test ids (at .loop .table) r (at .loop .inv .3)) ∙ sym (new .ensures) ∙ not-false (new .result) (c .before .before .if1 .left) in (
       omega arith,
       c .meet .ensures .1,
-      rw add-one (all-more r (newly ids) (at .loop .inv .2) this),
+      rw add-one (all-next r (newly ids) (at .loop .inv .2) this),
       λ x. rw (add-one, c .meet .ensures .0 x) (met-turn ids r x (met (at .loop .table) x) (at .loop .inv .3 x)),
     )
 

@@ -10,7 +10,7 @@ use Rattle.words.proofs.Entries.{entry-set}
 use Rattle.input.specs.Limits.{most-rows}
 use Rattle.input.specs.Classes.{Tree}
 use Rattle.live_rules.specs.Soundness.{children-sum}
-use Rattle.soundness.proofs.Alls.{zero-words}
+use Rattle.laws.proofs.event.Outset.{replicate-at}
 use Rattle.soundness.proofs.Turns.{sums-start, sums-turn, sums-end}
 use Rattle.soundness.proofs.tree.children_sums.Statement.{statement}
 use Rattle.soundness.proofs.tree.children_sums.Tie as tie
@@ -28,8 +28,8 @@ loop-holds c = (
   omega arith,
   omega arith,
   refl,
-  λ p. rw (zero-words most-rows p) (omega arith),
-  λ tree e p inside. zero-words most-rows p ∙ sym (sums-start tree (c .args .list .now) p),
+  λ p. rw (replicate-at {A = ℕ} most-rows p 0) (omega arith),
+  λ tree e p inside. replicate-at {A = ℕ} most-rows p 0 ∙ sym (sums-start tree (c .args .list .now) p),
 )
 
 mul-wide : tie.Need-mul-wide Inv-loop μ-loop

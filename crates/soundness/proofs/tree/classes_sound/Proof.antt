@@ -10,7 +10,7 @@ use borrow.Author.Tests.{ne-eqb, not-true, not-false}
 use lib.Dec.{eqb}
 use Rattle.input.specs.Classes.{Tree}
 use Rattle.live_rules.specs.Soundness.{all, class-sound}
-use Rattle.soundness.proofs.Alls.{all-more, all-false}
+use Rattle.live_rules.proofs.Alls.{all-next, all-fails}
 use Rattle.soundness.proofs.tree.classes_sound.Statement.{statement}
 use Rattle.soundness.proofs.tree.classes_sound.Tie as tie
 
@@ -35,7 +35,7 @@ returns c tree e1 e2 e3 e4 =
     let at = c .before .before .before in
     let r = at .loop .r in
     let this = sym (c .before .class-sound .ensures tree e1 e2 e3 e4) ∙ not-true (c .before .class-sound .result) (c .if1 .taken) in
-    sym (all-false (at .before .args .n) (λ q. eqb q 0 || class-sound tree q) r (omega arith) (rw (ne-eqb r 0 (omega arith)) this))
+    sym (all-fails (at .before .args .n) (λ q. eqb q 0 || class-sound tree q) r (omega arith) (rw (ne-eqb r 0 (omega arith)) this))
 
 add-r : tie.Need-add-r Inv-loop μ-loop
 add-r c = search needs
@@ -51,7 +51,7 @@ loop-again c =
       omega arith,
       λ tree e1 e2 e3 e4.
           let this = sym (c .before .class-sound .ensures tree e1 e2 e3 e4) ∙ not-false (c .before .class-sound .result) (c .if1 .left) in
-          rw add-one (all-more r (λ q. eqb q 0 || class-sound tree q) (at .loop .inv .2 tree e1 e2 e3 e4) (rw (ne-eqb r 0 (omega arith)) this)),
+          rw add-one (all-next r (λ q. eqb q 0 || class-sound tree q) (at .loop .inv .2 tree e1 e2 e3 e4) (rw (ne-eqb r 0 (omega arith)) this)),
     )
 
 returns-2 : tie.Need-returns-2 Inv-loop μ-loop

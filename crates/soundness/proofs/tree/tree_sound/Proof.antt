@@ -10,7 +10,7 @@ use lib.ListN.{getD, take}
 use Rattle.input.specs.Limits.{whole}
 use Rattle.input.specs.Lent.{tree-with}
 use Rattle.live_rules.specs.Soundness.{children-sum}
-use Rattle.soundness.proofs.Alls.{all-same}
+use Rattle.live_rules.proofs.Alls.{all-same}
 use Rattle.soundness.proofs.Parts.{root-fails, names-fail, classes-fail, sums-decide, parents-inside}
 use Rattle.soundness.proofs.tree.tree_sound.Statement.{statement}
 use Rattle.soundness.proofs.tree.tree_sound.Tie as tie

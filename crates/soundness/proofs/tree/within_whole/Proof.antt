@@ -11,7 +11,7 @@ use lib.Dec.{leb}
 use lib.ListN.{getD}
 use Rattle.input.specs.Limits.{whole}
 use Rattle.live_rules.specs.Soundness.{all}
-use Rattle.soundness.proofs.Alls.{all-more, all-false}
+use Rattle.live_rules.proofs.Alls.{all-next, all-fails}
 use Rattle.soundness.proofs.tree.within_whole.Statement.{statement}
 use Rattle.soundness.proofs.tree.within_whole.Tie as tie
 
@@ -38,7 +38,7 @@ returns : tie.Need-returns Inv-loop μ-loop
 returns c =
     let at = c .before .before .before in
     let sums = at .before .args .sums .now in
-    sym (all-false (at .before .args .n) (λ p. leb (getD sums p 0) whole) (at .loop .p) (omega arith) (lt-leb _ whole (c .if1 .taken)))
+    sym (all-fails (at .before .args .n) (λ p. leb (getD sums p 0) whole) (at .loop .p) (omega arith) (lt-leb _ whole (c .if1 .taken)))
 
 add-p : tie.Need-add-p Inv-loop μ-loop
 add-p c = search needs
@@ -50,7 +50,7 @@ loop-again : tie.Need-loop-again Inv-loop μ-loop
 loop-again c =
     let at = c .before .before .before in
     let sums = at .before .args .sums .now in
-    (omega arith, rw add-one (all-more (at .loop .p) (λ p. leb (getD sums p 0) whole) (at .loop .inv .1) (le-leb _ whole (c .if1 .left))))
+    (omega arith, rw add-one (all-next (at .loop .p) (λ p. leb (getD sums p 0) whole) (at .loop .inv .1) (le-leb _ whole (c .if1 .left))))
 
 returns-2 : tie.Need-returns-2 Inv-loop μ-loop
 returns-2 c =
