@@ -4,6 +4,9 @@ mod lists;
 mod states;
 mod system;
 
+use std::fs;
+use std::os::unix::fs::symlink;
+
 use crate::day::{LIST, STATE, TABLE};
 use crate::pair::{wrong, Pair, Tried};
 use crate::shown::whole_print;
@@ -27,6 +30,7 @@ const USAGE: &str = "cannot read: give what to do and its files, live fresh TABL
 const OWN_FILE: &str = "cannot read: the state is a file of its own and cannot be standard input; \
                         a file called - is ./-\n";
 const NO_FILE: &str = "there is no such file\n";
+const FOLDER: &str = "it is a folder\n";
 
 /// A trial by its name; both folders have a table, a fresh state of it and a list.
 pub type Trial = (&'static str, fn(&mut Pair) -> Tried<()>);
@@ -112,6 +116,25 @@ impl Pair {
             false => wrong(asked, "the state has changed"),
         }
     }
+}
+
+/// Names of nothing that can be read, as a state or as a list, each with what is said of it.
+fn unreadable(
+    pair: &mut Pair,
+    more: &[(&str, &'static str)],
+) -> Tried<Vec<(String, &'static str)>> {
+    pair.each(|folder| fs::create_dir(folder.join("folder")))?;
+    pair.each(|folder| symlink("circle", folder.join("circle")))?;
+    let long = "x".repeat(256);
+    let all = [
+        ("missing", NO_FILE),
+        ("", NO_FILE),
+        ("folder", FOLDER),
+        (&long, "its name is too long\n"),
+        ("circle", "the system refuses it with error 40\n"),
+    ];
+    let named = |(name, why): &(&str, &'static str)| (name.to_string(), *why);
+    Ok(all.iter().chain(more).map(named).collect())
 }
 
 fn wrong_calls(pair: &mut Pair) -> Tried<()> {

@@ -1,11 +1,9 @@
 //! Lists that cannot be read, are long, or meet a state at its limits.
 
-use std::fs;
-use std::os::unix::fs::symlink;
 use std::path::Path;
 
 use crate::day::{LIST, STATE, TABLE};
-use crate::odd::NO_FILE;
+use crate::odd::{unreadable, NO_FILE};
 use crate::pair::{wrong, Pair, Tried};
 use crate::shown::whole_print;
 use crate::states::{bytes_of, raise, words_of};
@@ -15,19 +13,9 @@ use trials::Fed;
 
 pub fn unread_lists(pair: &mut Pair) -> Tried<()> {
     let before = pair.get(STATE)?;
-    pair.each(|folder| fs::create_dir(folder.join("folder")))?;
-    pair.each(|folder| symlink("circle", folder.join("circle")))?;
-    let long = "x".repeat(256);
-    for (name, why) in [
-        ("missing", NO_FILE),
-        ("", NO_FILE),
-        ("state/list", NO_FILE),
-        ("folder", "it is a folder\n"),
-        (&long, "its name is too long\n"),
-        ("circle", "the system refuses it with error 40\n"),
-    ] {
+    for (name, why) in unreadable(pair, &[("state/list", NO_FILE)])? {
         let said = format!("cannot read {name}: {why}");
-        pair.wants(&["events", STATE, name], Some(""), &said)?;
+        pair.wants(&["events", STATE, &name], Some(""), &said)?;
     }
     let arguments = ["events", STATE, "-"];
     let printed = pair.ask_fed(&arguments, |folder| Fed::File(folder.join("folder")))?;

@@ -8,7 +8,7 @@ use std::path::Path;
 use std::process::Command;
 
 use crate::day::{LIST, STATE, TABLE};
-use crate::odd::{NO_FILE, ROWS};
+use crate::odd::{unreadable, FOLDER, NO_FILE, ROWS};
 use crate::pair::{wrong, Pair, Tried};
 use trials::Fed;
 
@@ -50,20 +50,14 @@ pub fn sizes(pair: &mut Pair) -> Tried<()> {
 }
 
 pub fn unread_states(pair: &mut Pair) -> Tried<()> {
-    pair.each(|folder| fs::create_dir(folder.join("folder")))?;
-    pair.each(|folder| symlink("circle", folder.join("circle")))?;
-    let long = "x".repeat(256);
-    for (name, why) in [
-        ("missing", NO_FILE),
-        ("", NO_FILE),
+    let more = [
         ("missing/state", NO_FILE),
         ("state/state", NO_FILE),
         ("--", NO_FILE),
-        ("folder", "it is a folder\n"),
-        ("/", "it is a folder\n"),
-        (&long, "its name is too long\n"),
-        ("circle", "the system refuses it with error 40\n"),
-    ] {
+        ("/", FOLDER),
+    ];
+    for (name, why) in unreadable(pair, &more)? {
+        let name = name.as_str();
         let said = format!("cannot read {name}: {why}");
         pair.wants(&["report", name], None, &said)?;
         pair.wants(&["events", name, LIST], None, &said)?;
