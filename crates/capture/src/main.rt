@@ -1,6 +1,8 @@
 // capture CAPTURE TABLE FIRST SECOND THIRD RATE: reads a capture and a class table, replays the capture's packets over a line that carries
 // RATE bytes a second, each for one of three classes by its code point, and prints the answer and, for each packet, when it arrived, went
 // on the line and was finished; to standard error it says what cannot be read or written, or what a refusal names and how to mend it.
+#![tactic(auto)]
+
 mod asked;
 mod packets;
 mod printing;

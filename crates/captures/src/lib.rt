@@ -1,4 +1,6 @@
 // The replay of captured packets: what is refused of the capture and of what is lent, the list that its records make, and the run of it.
+#![tactic(auto)]
+
 ghost use Rattle.std.specs.Prelude.{◌≡◌, ℕ, ◌*◌, ◌≤◌, ◌<◌, ◌^◌};
 ghost use Rattle.std.proofs.Math.ListN as lists;
 ghost use Rattle.input.specs.Classes.{Table, tree_of};

@@ -1,5 +1,7 @@
 // The checks of a whole input: refusals of the slices' lengths, of a class table and of an event list, and the row that each event is
 // for. They write nothing that is lent.
+#![tactic(auto)]
+
 mod rows;
 
 ghost use Rattle.std.specs.Prelude.{◌≡◌, Bool, ℕ, ◌≤◌, ◌<◌, ◌^◌};

@@ -1,5 +1,7 @@
 // Answers the questions about the checks that stand on standard input, one a line, as `stdin` explains; for a refusal it prints
 // number, place and second place.
+#![tactic(auto)]
+
 use input::{Event, Refusal};
 use tables::Reading;
 

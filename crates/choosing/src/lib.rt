@@ -7,6 +7,8 @@
 //
 // What these functions require holds of every box. Rows and parents are rows that there can be, so no array is read outside. Lengths
 // are packets', and every tag has the leeway for the ticks that its row is charged or passes, so no sum wraps.
+#![tactic(auto)]
+
 ghost use Rattle.std.specs.Prelude.{◌≡◌, List, ℕ, ◌+◌, ◌<◌, ◌≤◌, ◌^◌, get_or, set};
 ghost use Rattle.input.specs.Limits.{most_rows, most_bytes};
 ghost use Rattle.input.specs.Classes.{Tree};

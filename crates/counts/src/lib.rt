@@ -1,4 +1,6 @@
 // What the run counts along the tree's paths. Every array has an entry for each row that there can be.
+#![tactic(auto)]
+
 ghost use Rattle.std.specs.Prelude.{◌≡◌, List, ℕ, suc, pred, ◌+◌, ◌-◌, ◌*◌, ◌≤◌, ◌<◌, ◌^◌, get_or};
 ghost use Rattle.input.specs.Limits.{most_rows, most_depth};
 ghost use Rattle.input.specs.Classes.{Tree};

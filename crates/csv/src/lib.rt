@@ -1,5 +1,7 @@
 // Class tables and reports as comma-separated lines, each ended by CR LF: reading a table's text, writing a table, and writing a report
 // with its lags.
+#![tactic(auto)]
+
 mod places;
 mod reading;
 mod scans;

@@ -1,5 +1,7 @@
 // Reads the class table on standard input, writes it again, and writes a report over its rows, by the routines of `csv`. It prints the
 // number, place, second place and count of each answer, and what was written after it.
+#![tactic(auto)]
+
 use input::Answer;
 
 // As many bytes as the longest table that is accepted has.

@@ -1,4 +1,6 @@
 // The tree of a class table, drawn with indents: of each row its identifier, its share, and its part of its parent and of the line.
+#![tactic(auto)]
+
 mod lines;
 mod order;
 mod parts;

@@ -1,4 +1,6 @@
 // The run, by either way to find the child that a row takes: refusals first, then event by event, then the results.
+#![tactic(auto)]
+
 ghost use Rattle.std.specs.Prelude.{◌≡◌, List, ℕ, ◌*◌, ◌≤◌, ◌<◌};
 ghost use Rattle.std.proofs.Math.ListN as lists;
 ghost use Rattle.input.specs.Limits.{most_rows, report_words};

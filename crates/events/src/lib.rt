@@ -1,4 +1,6 @@
 // One event of an input that is not refused: what it does to the rows, the counts, the queues and the order.
+#![tactic(auto)]
+
 ghost use Rattle.std.specs.Prelude.{List, ℕ};
 ghost use Rattle.input.specs.Lent.{events_of, tree_with};
 ghost use Rattle.heaps.specs.Heaps.{Forest, forest};

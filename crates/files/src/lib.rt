@@ -1,4 +1,6 @@
 // Class tables, lists of events and captures in files: reading one, what is said where it cannot be read, printing, and how a program ends.
+#![tactic(auto)]
+
 mod ending;
 mod handing;
 mod opening;

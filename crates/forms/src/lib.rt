@@ -1,5 +1,7 @@
 // The words that the definitions of text and its code share: where a byte of a table's text stands, a text as far as it is read, and what
 // came of reading rows.
+#![tactic(auto)]
+
 use input::Refusal;
 
 // Where the next byte of a table's text stands: after so many bytes of the heading, where a field begins, from 0, within a field

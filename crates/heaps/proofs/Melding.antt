@@ -23,8 +23,8 @@ stays l m a (fork x s t) keeps shaped =
       shaped.0,
       shaped.1,
       shaped.2,
-      rw here.0 (stays l m _ s (λ y some. keeps y (omega arith)) shaped.3),
-      rw here.1 (stays l m _ t (λ y some. keeps y (omega arith)) shaped.4),
+      rw here.0 (stays l m (left_of l x) s (λ y some. keeps y (omega arith)) shaped.3),
+      rw here.1 (stays l m (right_of l x) t (λ y some. keeps y (omega arith)) shaped.4),
     )
 
 module _ (l : Links) (at x : ℕ) where

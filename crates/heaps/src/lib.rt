@@ -1,6 +1,8 @@
 // Heaps of the numbers 1 to 255, many over one pair of links: for each number the roots of its two sides, 0 where there is none. A
 // number is in one heap at most, and no number in a heap comes before its root: the least is the root. Number 0 is in no heap; its
 // left link is where a meld hangs its result.
+#![tactic(auto)]
+
 ghost use Rattle.std.specs.Prelude.{◌≡◌, ◌<◌, get_or};
 ghost use Rattle.heaps.specs.Sizes.{most_members, most_heaps};
 ghost use Rattle.heaps.specs.Order.{before};

@@ -4,6 +4,8 @@
 // What the steps require holds of every box. Rows, parents and depths are of rows that there can be, so no array is read outside.
 // Lengths are packets', and every tag has the leeway for one charge, or for a choice a level. On the way up the children that wait are filed as
 // the way to find one asks.
+#![tactic(auto)]
+
 ghost use Rattle.std.specs.Prelude.{◌≡◌, List, ℕ, ◌+◌, ◌<◌, ◌≤◌, ◌^◌, get_or};
 ghost use Rattle.input.specs.Limits.{most_rows, most_bytes};
 ghost use Rattle.input.specs.Lent.{tree_with};

@@ -1,4 +1,6 @@
 // The test of a live state's packets and of what each row holds: it reads the lent words and the rows' numbers, and writes nothing.
+#![tactic(auto)]
+
 mod packets;
 mod row;
 mod rows;

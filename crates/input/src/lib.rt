@@ -1,4 +1,6 @@
 // The words that definitions and code share about what is put in: limits and units, the two kinds of event, a refusal, and a run's answer.
+#![tactic(auto)]
+
 ghost use Rattle.std.specs.Prelude.{◌<◌};
 ghost use Rattle.input.specs.Limits.{on_air_identifiers};
 ghost use Rattle.input.specs.Classes.{Cuts};

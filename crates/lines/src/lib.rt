@@ -1,4 +1,6 @@
 // Lines of text, put on a page.
+#![tactic(auto)]
+
 ghost use Rattle.std.specs.Prelude.{◌≡◌, [], ◌∷◌, ◌++◌, ◌+◌, ◌*◌, length, get_or, take, pos};
 ghost use Rattle.input.specs.Lent.{table_of};
 ghost use Rattle.input.specs.Limits.{report_words};

@@ -1,4 +1,6 @@
 // The list of events that packets make which arrive at given moments: built with the box, event by event, until one is refused.
+#![tactic(auto)]
+
 mod next;
 
 ghost use Rattle.std.specs.Prelude.{◌≡◌, ℕ, suc, ◌*◌, ◌≤◌, ◌<◌};

@@ -1,6 +1,8 @@
 // live fresh TABLE STATE, live events STATE EVENTS, live report STATE: a live box whose state is kept in a file. Makes the state of a class
 // table, takes events one after the other and answers each, or prints the report with the lags; to standard error it says what cannot be
 // read or written, or what a refusal names and how to mend it.
+#![tactic(auto)]
+
 mod answers;
 mod events;
 mod fresh;

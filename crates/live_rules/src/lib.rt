@@ -1,4 +1,5 @@
 // The words that the live box's definitions and its code share: its limits, where its words stand, and what a call answers.
+#![tactic(auto)]
 
 // ── limits: the numbers of specs/Limits.antt ──
 

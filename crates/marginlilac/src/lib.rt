@@ -1,5 +1,7 @@
 // The run for C: on bytes, which may lie at any address. They are read into words, and the results are written back as bytes: four to a
 // word, and eight in the report and the lags.
+#![tactic(auto)]
+
 ghost use Rattle.std.specs.Prelude.{◌≡◌};
 ghost use Rattle.std.proofs.Math.ListN as lists;
 ghost use Rattle.rules.specs.Outcome.{Ran, outcome};

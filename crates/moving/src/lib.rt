@@ -1,5 +1,7 @@
 // One event of a live box, on arrays with an entry for each row that there can be: the run's own steps, the way up, and what went on the line.
 // Which rows are children of which is listed at each event, since nothing is kept from one to the next but the state.
+#![tactic(auto)]
+
 ghost use Rattle.std.specs.Prelude.{◌≡◌, List, ℕ, length, get_or};
 ghost use Rattle.input.specs.Lent.{tree_with};
 ghost use Rattle.rules.specs.Box.{Box};

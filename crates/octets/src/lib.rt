@@ -1,5 +1,7 @@
 // Words as bytes, the lowest first: read from lent bytes, and written over the first of them. Straight code in each loop, which
 // the compiler makes one load or one store a word.
+#![tactic(auto)]
+
 ghost use Rattle.std.specs.Prelude.{◌≡◌, [], ◌∷◌, ◌+◌, ◌*◌, ◌/◌, ◌≤◌, length, take, drop, replicate};
 ghost use Rattle.std.proofs.lemmas.List.Edits.{sets};
 ghost use Rattle.std.specs.Int.{w64};

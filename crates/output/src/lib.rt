@@ -1,4 +1,6 @@
 // Text put on a page: a lent slice, and how many of its bytes are used. What finds no room is left out.
+#![tactic(auto)]
+
 mod signed;
 
 ghost use Rattle.std.specs.Prelude.{[], ◌∷◌, ◌++◌};

@@ -1,4 +1,5 @@
 // The words that the definitions of captures and their code share: how a capture stores its numbers, and which class a packet goes to.
+#![tactic(auto)]
 
 // The highest byte of a number comes first, or the lowest; and the fractions of a second are nanoseconds, or microseconds.
 #[derive(Drop)]

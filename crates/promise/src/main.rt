@@ -2,6 +2,8 @@
 // the tree, what the line can finish at most while the class finishes OWN bytes and no class on its way more than PACKETS packets, in a
 // day whose largest packet has LARGEST bytes. To standard error it says what cannot be read or written, or what a refusal names and how
 // to mend it.
+#![tactic(auto)]
+
 mod asked;
 mod lines;
 

@@ -1,4 +1,6 @@
 // The queues as links in the lent working slice, and the order as it is written: what an event does to words that name packets.
+#![tactic(auto)]
+
 ghost use Rattle.std.specs.Prelude.{◌≡◌, ◌+◌, ◌-◌, ◌≤◌, ◌<◌, get_or, set, replicate};
 ghost use Rattle.std.proofs.Math.ListN as lists;
 ghost use Rattle.std.proofs.lemmas.List.Edits.{sets};

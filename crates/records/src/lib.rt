@@ -1,5 +1,7 @@
 // Reading captures over lent bytes: what refuses one, record by record, its records as arrivals, and each record's fields, packet and
 // class. Nothing that is lent is copied, and a packet is a part of the capture's own bytes.
+#![tactic(auto)]
+
 mod fields;
 mod headers;
 mod numbers;

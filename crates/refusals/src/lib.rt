@@ -1,4 +1,6 @@
 // All that is refused of a class table, row by row, and not the first alone: for whoever mends it in one go. It writes nothing that is lent.
+#![tactic(auto)]
+
 ghost use Rattle.std.specs.Prelude.{◌≡◌, ◌≤◌, ◌<◌, ◌^◌, length};
 ghost use Rattle.input.specs.Limits.{most_rows};
 ghost use Rattle.input.specs.Classes.{Tree};

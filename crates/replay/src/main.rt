@@ -1,5 +1,7 @@
 // replay TABLE EVENTS: reads a class table and a list of events, replays them, and prints the answer, the order and the report with
 // the lags; to standard error it says what cannot be read or written, or what a refusal names and how to mend it.
+#![tactic(auto)]
+
 ghost use Rattle.std.specs.Prelude.{◌≡◌, length};
 
 use choosing::Way;

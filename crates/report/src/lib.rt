@@ -1,5 +1,7 @@
 // The results of a run: how the report and the lags are written into the lent slices. Every array has an entry for each row that
 // there can be.
+#![tactic(auto)]
+
 ghost use Rattle.std.specs.Prelude.{◌≡◌, cond, false, [], ◌∷◌, suc, ◌+◌, ◌*◌, ◌-◌, ◌≤◌, ◌<◌, length, get_or, pos, ◌-ℤ◌};
 ghost use Rattle.std.proofs.lemmas.List.Edits.{sets};
 ghost use Rattle.input.specs.Limits.{most_rows, whole, report_words};

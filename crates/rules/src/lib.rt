@@ -1,4 +1,5 @@
 // The words that the box's definitions and its code share: why a row chooses, and what its choice comes to.
+#![tactic(auto)]
 
 // The packet that was its head has just finished, or a packet has arrived below it while it had no head.
 #[derive(Drop)]

@@ -1,4 +1,6 @@
 // What is said of an answer: a refusal, or the fault of a table's text, as one sentence for a person, with the file that it is in.
+#![tactic(auto)]
+
 mod children;
 mod events;
 mod faults;

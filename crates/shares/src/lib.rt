@@ -1,4 +1,6 @@
 // Shares: which are allowed, and what a packet costs under one.
+#![tactic(auto)]
+
 ghost use Rattle.shares.specs.Stated.{Allows, RoundsUp, Charges};
 
 use input::{LEAST_SHARE, SCALE, WHOLE};

@@ -1,4 +1,6 @@
 // The dispatcher's sheet: the number of the promise on shares, worked out exactly in 64-bit words.
+#![tactic(auto)]
+
 ghost use Rattle.std.specs.Prelude.{◌≡◌, true, ◌+◌, ◌*◌, ◌%◌, ◌<◌, ltb, eqb};
 ghost use Rattle.input.specs.Limits.{scale};
 ghost use Rattle.sheet.specs.Paper.{limit, greatest, fraction, ratio_of, fitting, by_share, sum_of, with_ticks, stepped};

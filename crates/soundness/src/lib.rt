@@ -1,4 +1,6 @@
 // Whether a live state is sound: the tests of its tree and of its rows, in walks that each pass the rows once.
+#![tactic(auto)]
+
 mod seen;
 mod tree;
 

@@ -1,4 +1,6 @@
 // A lent live state, read into arrays of rows and tested whole.
+#![tactic(auto)]
+
 ghost use Rattle.std.specs.Prelude.{◌≤◌};
 ghost use Rattle.std.proofs.Math.ListN as lists;
 ghost use Rattle.live_rules.specs.Layout.{state_words};

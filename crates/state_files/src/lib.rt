@@ -1,4 +1,6 @@
 // The state of a live box in a file: it is read whole, and replaced whole or not at all.
+#![tactic(auto)]
+
 mod loading;
 mod replacing;
 mod unwritable;

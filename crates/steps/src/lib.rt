@@ -1,5 +1,7 @@
 // What an event does to the rows and to the counts before the way up begins, on arrays with an entry for each row that there can be: a packet
 // arrives, or the line's packet leaves. Whoever calls these steps keeps the queues and the order, and goes the way up.
+#![tactic(auto)]
+
 ghost use Rattle.std.specs.Prelude.{◌≡◌, List, ℕ, suc, ◌≤◌, ◌<◌, ◌^◌, get_or, take};
 ghost use Rattle.input.specs.Limits.{most_rows, most_bytes};
 ghost use Rattle.input.specs.Lent.{tree_with};

@@ -1,4 +1,6 @@
 // The words of a lent state, to arrays of rows and back, list by list and in their groups; packets put in and taken out.
+#![tactic(auto)]
+
 ghost use Rattle.std.specs.Prelude.{◌≡◌, true, List, [], ◌∷◌, ◌++◌, ℕ, ◌+◌, ◌≤◌, ◌<◌, ◌^◌, leb, get_or, take, drop};
 ghost use Rattle.std.proofs.Math.ListN as lists;
 ghost use Rattle.std.proofs.lemmas.List.Edits.{sets};

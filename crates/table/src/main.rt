@@ -1,5 +1,7 @@
 // table TABLE: reads a class table and gives all that is refused of it, row by row, and not the first alone; or draws its tree. To standard
 // error it says what cannot be read or written, or what each refusal names and how to mend it.
+#![tactic(auto)]
+
 mod refused;
 
 use files::{Status, complain, end_with, first, load_table};

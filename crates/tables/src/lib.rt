@@ -1,5 +1,7 @@
 // Reading a class table: what refuses it, row by row, and the tree that it is. It writes nothing that is lent. `read_table` and
 // `row_of` are for all; what else is public is for the crates `checks` and `refusals` alone.
+#![tactic(auto)]
+
 ghost use Rattle.std.specs.Prelude.{◌≡◌, cond, ◌≤◌, ◌<◌, ◌^◌, length, take};
 ghost use Rattle.input.specs.Limits.{most_rows};
 ghost use Rattle.input.specs.Classes.{Tree, Table, place_of, read, tree_of, share, child, has_child, sends, children_share};

@@ -1,4 +1,6 @@
 // An event that is not refused, of a state that was read: the rows after it, and the words that it changes.
+#![tactic(auto)]
+
 mod rows;
 mod take;
 

@@ -1,4 +1,6 @@
 // Reading a list of events as text: byte by byte, by a scan that is a value.
+#![tactic(auto)]
+
 mod bytes;
 mod digits;
 mod heading;

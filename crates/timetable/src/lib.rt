@@ -1,4 +1,6 @@
 // When each packet of a replayed capture arrived, went on the line and was finished, as lines put on a page.
+#![tactic(auto)]
+
 mod counting;
 mod moments;
 

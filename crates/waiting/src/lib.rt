@@ -1,4 +1,6 @@
 // A row's two heaps: its children that wait for their start, and those that are eligible. One is added, and the row chooses by them.
+#![tactic(auto)]
+
 ghost use Rattle.std.specs.Prelude.{◌≡◌, ℕ, ◌<◌, List};
 ghost use Rattle.input.specs.Limits.{most_rows};
 ghost use Rattle.heaps.specs.Heaps.{forest};

@@ -1,4 +1,6 @@
 // What several crates use alike: numbers as indices, the larger of two, and a word or zero.
+#![tactic(auto)]
+
 ghost use Rattle.std.specs.Prelude.{◌≡◌, ◌<◌, ◌^◌, max, get_or};
 
 // A number as an index.

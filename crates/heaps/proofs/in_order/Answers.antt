@@ -1,0 +1,14 @@
+-- `heaps::in_order` meets its contract.
+-- Assumes nothing.
+use Rattle.heaps.specs.Links.{lesser, other}
+use mathlib.Core.Path.{sym, ◌∙◌}
+use borrow.Author.Rules.{rules}
+use Rattle.heaps.proofs.in_order.Goals as goal
+
+pub returns-then-comes_before : goal.returns-then-comes_before
+unfolding lesser other
+returns-then-comes_before c = let told = sym c.comes_before.ensures ∙ c.if-comes_before.true in record { first_value = rw told; second_value = rw told }
+
+pub returns : goal.returns
+unfolding lesser other
+returns c = let told = sym c.comes_before.ensures ∙ c.if-comes_before.false in record { first_value = rw told; second_value = rw told }

@@ -1,0 +1,10 @@
+-- `heaps::insert` meets its contract: x has nothing on either side and is melded with what is there.
+-- Assumes nothing.
+use Rattle.heaps.specs.Links.{bare}
+use Rattle.heaps.specs.Heaps.{joined}
+use borrow.Author.Rules.{rules}
+use Rattle.heaps.proofs.insert.Goals as goal
+
+pub returns : goal.returns
+unfolding joined bare
+returns c = rw (c.meld.ensures.value, c.meld.ensures.right_after)

@@ -1,0 +1,15 @@
+-- `heaps::meld` meets its contract: the result hangs to the left of 0.
+-- Assumes nothing.
+use borrow.Author.Tests.{eq-eqb, ne_eqb}
+use Rattle.heaps.specs.Links.{root_of, melded}
+use borrow.Author.Rules.{rules}
+use Rattle.heaps.proofs.meld.Goals as goal
+
+pub returns-then-b-eq0 : goal.returns-then-b-eq0
+unfolding root_of melded
+returns-then-b-eq0 c = record { value = rw (eq-eqb _ _ c.if-b-eq0.true); right_after = rw (eq-eqb _ _ c.if-b-eq0.true) }
+
+pub returns : goal.returns
+unfolding root_of melded
+returns c = let some = ne_eqb _ _ c.if-b-eq0.false in
+    record { value = rw (some, ← c.hang.ensures); right_after = rw (some, c.hang.ensures) }

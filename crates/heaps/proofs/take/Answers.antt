@@ -1,0 +1,16 @@
+-- `heaps::take` meets its contract: the root leaves, and its two sides are melded.
+-- Assumes nothing.
+use mathlib.Core.Path.{refl, sym}
+use borrow.Author.Tests.{eq-eqb, ne_eqb}
+use Rattle.heaps.specs.Heaps.{parted}
+use borrow.Author.Rules.{rules}
+use Rattle.heaps.proofs.take.Goals as goal
+
+pub returns-then-k-eq0 : goal.returns-then-k-eq0
+unfolding parted
+returns-then-k-eq0 c = let none = c.if-k-eq0.true in record { value = sym none; right_after = rw (eq-eqb _ _ none) }
+
+pub returns : goal.returns
+unfolding parted
+returns c = let some = ne_eqb _ _ c.if-k-eq0.false in
+    record { value = refl; right_after = rw (some, c.meld_below.ensures.value, c.meld_below.ensures.right_after) }
