@@ -332,7 +332,7 @@ module _ (tree : Tree) (sound : Sound tree) (a : Rows) (full : Full a) (settled 
           own j other = go (ℕ_discrete j class)
             where
               go : Dec (j ≡ class) → Own now j
-              go (yes e) = subst (λ (i : ℕ). Own now i) (sym e) own_row.own_val
+              go (yes e) = subst (λ (i : ℕ). Own now i) (sym e) own_row.own
               go (no apart) = own_same tree sound a now settled j other (alone j other apart).kid.head_same
 
       pub departs_quiet :

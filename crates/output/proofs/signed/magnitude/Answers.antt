@@ -56,11 +56,6 @@ module _ (n : ℤ) (fits : SFits w64 n) (taken : lt_z (to_z w64 (of_z w64 n)) (p
   whole : mag n + 1 ≡ nat_abs n
   whole = add-one (mag n) ∙ sym (ap nat_abs known)
 
-    go :
-        (n : ℤ) → SFits w64 n → lt_z (to_z w64 (of_z w64 n)) (pos 0) ≡ false
-        → T (non_neg (to_z w64 (of_z w64 n))) × Fits w64 (nat_abs (to_z w64 (of_z w64 n)))
-    go n fits left = rw (to_z-of_z w64 n fits) (at_least_zero n fits (rw (to_z-of_z w64 n fits) at left))
-
 pub overflow_add-result : goal.overflow_add-result
 overflow_add-result c = sum_fits c.args.n c.ranges.n c.if-n-lt0.true
 
@@ -83,6 +78,11 @@ overflow_cast-result-else-n-lt0 c = go c.args.n c.ranges.n c.if-n-lt0.false
     at_least_zero : (n : ℤ) → SFits w64 n → lt_z n (pos 0) ≡ false → T (non_neg n) × Fits w64 (nat_abs n)
     at_least_zero (pos n) fits left = (tt, record { fits = omega (arith, fits.sfits) })
     at_least_zero (negsuc k) fits left = let z : ◌≡◌ {A = ℕ} 0 1 = cc in absurd (omega arith)
+
+    go :
+        (n : ℤ) → SFits w64 n → lt_z (to_z w64 (of_z w64 n)) (pos 0) ≡ false
+        → T (non_neg (to_z w64 (of_z w64 n))) × Fits w64 (nat_abs (to_z w64 (of_z w64 n)))
+    go n fits left = rw (to_z-of_z w64 n fits) (at_least_zero n fits (rw (to_z-of_z w64 n fits) at left))
 
 pub returns-then-n-lt0 : goal.returns-then-n-lt0
 returns-then-n-lt0 c =

@@ -1,0 +1,53 @@
+-- `counts::leave` meets its contract. The loop's invariant: what remains of the path's changes is the whole of them, and no count has
+-- grown by more than a length for each row passed.
+-- Assumes nothing.
+use Prim.Native.Nat.{ℕ, pred, ◌+◌, ◌-◌, ◌*◌, ◌^◌, ◌≤◌, ◌<◌}
+use native.Mathlib.Omega.{arith}
+use borrow.Author.Rules.{rules}
+use lib.ListN.{get_or}
+use Rattle.input.specs.Limits.{most_rows}
+use Rattle.words.proofs.Entries.{entry_set}
+use Rattle.rules.proofs.OnPath.{Remains, remains_all, remains_less, remains_last}
+use Rattle.counts.specs.Counts.{most_finished, path_tree}
+use Rattle.counts.proofs.Steps.{left}
+use Rattle.counts.proofs.leave.Goals as goal
+
+pub loop-to_leave-init : goal.loop-to_leave-init
+loop-to_leave-init c = (
+  search rules,
+  remains_all c.entry-to_leave.ensures,
+  remains_all c.entry-to_leave.ensures,
+  omega (arith, c.entry-to_leave.ensures),
+  λ i inside. omega (arith, c.requires.1.1.1 i inside),
+)
+
+pub leave_at-requires : goal.leave_at-requires
+leave_at-requires c =
+    (c.loop-to_leave.invariant.0, (omega (arith, c.loop-to_leave.invariant.4 c.loop-to_leave.r c.loop-to_leave.invariant.0), c.ranges.length.fits))
+
+pub loop-to_leave-preserved : goal.loop-to_leave-preserved
+loop-to_leave-preserved c =
+    let test : 0 < c.loop-to_leave.to_leave = omega (arith, c.loop-to_leave-test.true) in
+    let here = c.loop-to_leave.invariant.4 c.loop-to_leave.r c.loop-to_leave.invariant.0 in (
+      omega (arith, c.entry-r.ensures, c.requires.1.0 c.loop-to_leave.r c.loop-to_leave.invariant.0),
+      remains_less test c.entry-r.ensures c.leave_at.ensures.bytes_after c.loop-to_leave.invariant.1,
+      remains_less test c.entry-r.ensures c.leave_at.ensures.held_after c.loop-to_leave.invariant.2,
+      omega arith,
+      λ i inside.
+          rw c.leave_at.ensures.bytes_after
+          (entry_set (λ (n : ℕ). n ≤ most_finished + (8 - (c.loop-to_leave.to_leave - 1)) * 2 ^ 32) c.loop-to_leave.bytes c.loop-to_leave.r
+          (get_or c.loop-to_leave.bytes c.loop-to_leave.r 0 + c.args.length) i
+          (omega (arith, c.ranges.length)) (omega (arith, c.loop-to_leave.invariant.4 i inside))),
+    )
+
+pub leave_at-requires-2 : goal.leave_at-requires-2
+leave_at-requires-2 c =
+    (c.loop-to_leave.invariant.0, (omega (arith, c.loop-to_leave.invariant.4 c.loop-to_leave.r c.loop-to_leave.invariant.0), c.ranges.length.fits))
+
+pub returns : goal.returns
+returns c tree box since parent_since by class long counts =
+    let at = c in
+    let over : at.loop.to_leave ≤ 0 = omega (arith, c.loop-test.false) in
+    let done = c.leave-at2.ensures in
+    left tree box _ _ _ _ _ _ _ _ _ _ by class long counts (remains_last over done.0 at.loop.invariant.1)
+    (remains_last over done.1 at.loop.invariant.2)

@@ -1,0 +1,18 @@
+-- `holding::rows::matches_of` meets its contract: the rows passed have left their marks.
+-- Assumes nothing.
+use Prim.Native.Nat.{◌-◌, ◌≤◌}
+use mathlib.Core.Path.{◌≡◌, ◌∙◌}
+use mathlib.Core.Bool.{Bool, false}
+use lib.ListN.{length, length-set, length-replicate}
+use Rattle.input.specs.Limits.{most_rows}
+use Rattle.holding.specs.Rows.{Matches}
+use Rattle.holding.proofs.Passing.{matches_none, matches_more}
+use native.Mathlib.Omega.{arith}
+use borrow.Author.Rules.{rules}
+use Rattle.holding.proofs.rows.matches_of.Given as goal
+
+abbrev pub invariant-loop-t : goal.invariant-loop-t
+invariant-loop-t l = (l.t ≤ l.n) × (length l.marks ≡ most_rows) × Matches l.parents l.heads l.head_lengths l.head_classes l.t l.marks
+
+abbrev pub decreases-loop-t : goal.decreases-loop-t
+decreases-loop-t l = l.n - l.t

@@ -1,0 +1,40 @@
+-- `holding::rows::senders_sound` meets its contract: the rows passed are sound.
+-- Assumes nothing.
+use Prim.Native.Nat.{◌-◌, ◌≤◌}
+use mathlib.Core.Path.{◌≡◌, refl, sym, ◌∙◌}
+use mathlib.Core.Bool.{true, false}
+use borrow.Author.Tests.{not-true, not-false}
+use Rattle.live_rules.specs.Soundness.{all}
+use Rattle.live_rules.proofs.Alls.{all_fails, all_more}
+use Rattle.holding.specs.Rows.{senders_tested}
+use native.Mathlib.Omega.{arith}
+use borrow.Author.Rules.{rules}
+use Rattle.holding.proofs.rows.senders_sound.Goals as goal
+
+pub loop-r-init : goal.loop-r-init
+unfolding all
+loop-r-init c = (omega arith, refl)
+
+pub returns-then-not-sender_sound : goal.returns-then-not-sender_sound
+unfolding senders_tested
+returns-then-not-sender_sound c =
+    let at = c.loop-r in
+    let s = c.args in
+    let test = (senders_tested s.senders.now s.held.now s.counts.now s.virtuals.now s.heads.now s.head_lengths.now s.head_classes.now s.firsts.now s.sizes.now) in
+    let so : test at.r ≡ false = sym c.sender_sound.ensures ∙ not-true c.sender_sound.result c.if-not-sender_sound.true in
+    sym (all_fails s.n test at.r (omega (arith, c.loop-r-test.true)) so)
+
+pub loop-r-preserved : goal.loop-r-preserved
+unfolding senders_tested
+loop-r-preserved c =
+    let at = c.loop-r in
+    let s = c.args in
+    let test = (senders_tested s.senders.now s.held.now s.counts.now s.virtuals.now s.heads.now s.head_lengths.now s.head_classes.now s.firsts.now s.sizes.now) in
+    let so : test at.r ≡ true = sym c.sender_sound.ensures ∙ not-false c.sender_sound.result c.if-not-sender_sound.false in
+    (omega (arith, c.loop-r-test.true), all_more at.r test at.invariant.1 so)
+
+pub returns : goal.returns
+returns c =
+    let at = c.loop-r in
+    let end : at.r ≡ c.args.n = omega arith in
+    sym (rw end at at.invariant.1)

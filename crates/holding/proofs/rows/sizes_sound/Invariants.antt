@@ -1,0 +1,18 @@
+-- `holding::rows::sizes_sound` meets its contract: the rows passed are sound.
+-- Assumes nothing.
+use Prim.Native.Nat.{◌-◌, ◌≤◌}
+use mathlib.Core.Path.{◌≡◌, refl, sym, ◌∙◌}
+use mathlib.Core.Bool.{true, false}
+use borrow.Author.Tests.{not-true, not-false}
+use Rattle.live_rules.specs.Soundness.{all}
+use Rattle.live_rules.proofs.Alls.{all_fails, all_more}
+use Rattle.holding.specs.Rows.{sizes_tested}
+use native.Mathlib.Omega.{arith}
+use borrow.Author.Rules.{rules}
+use Rattle.holding.proofs.rows.sizes_sound.Given as goal
+
+abbrev pub invariant-loop-r : goal.invariant-loop-r
+invariant-loop-r l = (l.r ≤ l.n) × (all l.r (sizes_tested l.left l.parents l.starts l.finishes l.virtuals l.heads l.head_classes) ≡ true)
+
+abbrev pub decreases-loop-r : goal.decreases-loop-r
+decreases-loop-r l = l.n - l.r

@@ -1,0 +1,17 @@
+-- `octets::read_longs` meets its contract. The loop's invariant: the words of the bytes passed are written over what was lent.
+-- Assumes nothing.
+use Prim.Native.Nat.{◌-◌, ◌/◌, ◌≤◌}
+use mathlib.Core.Path.{◌≡◌, refl}
+use native.Mathlib.Omega.{arith}
+use lib.ListN.{length, length-set}
+use borrow.Author.Rules.{rules}
+use Rattle.rules.specs.Outcome.{over}
+use Rattle.octets.specs.Octets.{word_at, words_below, words_of}
+use Rattle.octets.proofs.Turns.{word_turn}
+use Rattle.octets.proofs.read_longs.Given as goal
+
+abbrev pub invariant-loop-i : goal.invariant-loop-i
+invariant-loop-i l = (l.i ≤ l.n) × (l.words ≡ over (words_below 8 l.bytes l.i) l.initial.words) × (length l.words ≡ length l.initial.words)
+
+abbrev pub decreases-loop-i : goal.decreases-loop-i
+decreases-loop-i l = l.n - l.i

@@ -1,0 +1,17 @@
+-- `octets::write_words` meets its contract. The loop's invariant: the bytes of the words passed are written over what was lent.
+-- Assumes nothing.
+use Prim.Native.Nat.{◌-◌, ◌≤◌}
+use mathlib.Core.Path.{◌≡◌, refl, ◌∙◌}
+use native.Mathlib.Omega.{arith}
+use lib.ListN.{length, take}
+use borrow.Author.Rules.{rules}
+use Rattle.rules.specs.Outcome.{over}
+use Rattle.octets.specs.Octets.{bytes_of}
+use Rattle.octets.proofs.Turns.{write_turn}
+use Rattle.octets.proofs.write_words.Given as goal
+
+abbrev pub invariant-loop-i : goal.invariant-loop-i
+invariant-loop-i l = (l.i ≤ l.n) × (l.bytes ≡ over (bytes_of 4 (take l.i l.words)) l.initial.bytes) × (length l.bytes ≡ length l.initial.bytes)
+
+abbrev pub decreases-loop-i : goal.decreases-loop-i
+decreases-loop-i l = l.n - l.i

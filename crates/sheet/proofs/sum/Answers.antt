@@ -1,0 +1,23 @@
+-- `sheet::sum` meets its contract.
+-- Assumes nothing.
+use borrow.Author.Rules.{rules}
+use Rattle.sheet.specs.Paper.{ratio_of, sum_of}
+use Rattle.sheet.proofs.Greatest.{greatest_some}
+use Rattle.sheet.proofs.Figures.{times_some}
+use Rattle.sheet.proofs.sum.Goals as goal
+
+pub nonzero_div-times : goal.nonzero_div-times
+nonzero_div-times c = rw c.common-by.ensures (greatest_some _ _ _)
+
+pub nonzero_div-crosswise : goal.nonzero_div-crosswise
+nonzero_div-crosswise c = rw c.common-by.ensures (greatest_some _ _ _)
+
+pub sum_over-requires : goal.sum_over-requires
+sum_over-requires c =
+    let args = c.args in
+    let known = c.requires in
+    (rw c.common-by.ensures (times_some (ratio_of args.from) (ratio_of args.part) known.1), known.0)
+
+pub returns : goal.returns
+unfolding sum_of
+returns c = rw c.common-by.ensures at c.Sum-over.ensures

@@ -1,0 +1,58 @@
+-- `all_named` meets its contract: the rows passed are named, and the table has their identifiers.
+-- Assumes nothing.
+use Prim.Native.Nat.{ℕ, ◌-◌, ◌≤◌}
+use mathlib.Core.Path.{◌≡◌, refl, sym, ◌∙◌}
+use mathlib.Core.Bool.{true, not, ◌&&◌}
+use native.Mathlib.Numerals.{add-one}
+use native.Mathlib.Omega.{arith}
+use borrow.Author.Rules.{rules}
+use borrow.Author.Tests.{not-true, not-false, leb-true}
+use lib.Dec.{ltb, leb}
+use lib.ListN.{length, get_or}
+use Rattle.input.specs.Limits.{most_identifier}
+use Rattle.live_rules.specs.Soundness.{all, named}
+use Rattle.soundness.specs.Bits.{table_words, met}
+use Rattle.live_rules.proofs.Alls.{all_next, all_fails, all_same}
+use Rattle.soundness.proofs.Alls.{both_left, both_right}
+use Rattle.soundness.proofs.Names.{earlier_has, newly, named_newly, newly_test, met_start, met_turn}
+use Rattle.soundness.proofs.tree.all_named.Goals as goal
+
+pub loop-r-init : goal.loop-r-init
+unfolding all
+loop-r-init c = (omega arith, refl, refl, λ x. met_start c.args.identifiers.now x)
+
+pub returns-then-not-is_new : goal.returns-then-not-is_new
+returns-then-not-is_new c tree e1 e2 =
+    let at = c in
+    let ids = at.args.identifiers.now in
+    let n = at.args.n in
+    let r = at.loop.r in
+    let this = sym (newly_test ids at.loop.table r at.loop.invariant.3) ∙ sym c.is-new.ensures ∙ not-true c.is-new.result c.if1.true in
+    sym (all_same n (named tree) (newly ids) (λ q inside. named_newly tree ids n q e2 inside) ∙ all_fails n (newly ids) r (omega arith) this)
+
+pub meet-requires : goal.meet-requires
+meet-requires c =
+    let x = get_or c.args.identifiers.now c.loop-r.r 0 in
+    let new = sym c.is_new.ensures ∙ not-false c.is_new.result c.if-not-is_new.false in
+    let later = both_right (ltb 0 x) (leb x most_identifier && not (met c.loop-r.table x)) new in (
+      leb-true x most_identifier (both_left (leb x most_identifier) (not (met c.loop-r.table x)) later),
+      (c.loop-r.invariant.1, not-true (met c.loop-r.table x) (both_right (leb x most_identifier) (not (met c.loop-r.table x)) later)),
+    )
+
+pub loop-r-preserved : goal.loop-r-preserved
+loop-r-preserved c =
+    let ids = c.args.identifiers.now in
+    let r = c.loop-r.r in
+    let new = c.is_new in
+    let this = sym (newly_test ids c.loop-r.table r c.loop-r.invariant.3) ∙ sym new.ensures ∙ not-false new.result c.if-not-is_new.false in (
+      omega arith,
+      c.meet.ensures.table_len_2,
+      rw add-one (all_next r (newly ids) c.loop-r.invariant.2 this),
+      λ x. rw (add-one, c.meet.ensures.by_index x) (met_turn ids r x (met c.loop-r.table x) (c.loop-r.invariant.3 x)),
+    )
+
+pub returns : goal.returns
+returns c tree e1 e2 =
+    let s = c in
+    let end : c.loop.r ≡ s.args.n = omega arith in
+    sym (all_same s.args.n (named tree) (newly s.args.identifiers.now) (λ r inside. named_newly tree s.args.identifiers.now s.args.n r e2 inside) ∙ (rw end at c.loop.invariant.2))

@@ -1,0 +1,68 @@
+-- `children_sums` meets its contract: the rows passed are added up for their parents.
+-- Assumes nothing.
+use Prim.Native.Nat.{ℕ, ◌+◌, ◌*◌, ◌-◌, ◌^◌, ◌≤◌, ◌<◌, max}
+use mathlib.Core.Path.{◌≡◌, refl, sym, ◌∙◌}
+use native.Mathlib.Numerals.{add-one}
+use native.Mathlib.Omega.{arith}
+use borrow.Author.Rules.{rules}
+use lib.ListN.{length, get_or, length-set}
+use Rattle.words.proofs.Entries.{entry_set}
+use Rattle.input.specs.Limits.{most_rows}
+use Rattle.input.specs.Classes.{Tree}
+use Rattle.live_rules.specs.Soundness.{children_sum}
+use Rattle.laws.proofs.Event.Outset.{replicate_at}
+use Rattle.soundness.proofs.Turns.{sums_start, sums_turn, sums_end}
+use Rattle.soundness.proofs.tree.children_sums.Goals as goal
+
+pub loop-r-init : goal.loop-r-init
+loop-r-init c = (
+  omega arith,
+  omega arith,
+  refl,
+  λ p. rw (replicate_at {A = ℕ} most_rows p 0) (omega arith),
+  λ tree e p inside. replicate_at {A = ℕ} most_rows p 0 ∙ sym (sums_start tree c.args.list.now p),
+)
+
+pub offset_bounds-sums-p : goal.offset_bounds-sums-p
+offset_bounds-sums-p c =
+    let inside = c.requires.1 c.loop-r.r (omega arith) in
+    omega (arith, c.wide-p.ensures.0)
+
+pub bounds-sums-p : goal.bounds-sums-p
+bounds-sums-p c =
+    let inside = c.requires.1 c.loop-r.r (omega arith) in
+    omega (arith, c.wide-p.ensures.0)
+
+pub overflow_add-sums : goal.overflow_add-sums
+overflow_add-sums c =
+    let few = c.loop-r.invariant.3 c.wide-p.result in
+    omega (arith, c.long.ensures.1)
+
+pub bounds-sums-p-in-loop-r : goal.bounds-sums-p-in-loop-r
+bounds-sums-p-in-loop-r c =
+    let inside = c.requires.1 c.loop-r.r (omega arith) in
+    omega (arith, c.wide-p.ensures.0)
+
+pub loop-r-preserved : goal.loop-r-preserved
+loop-r-preserved c =
+    let sums = c.loop-r.sums in
+    let r = c.loop-r.r in
+    let p = c.wide-p.result in
+    let few = c.loop-r.invariant.3 p in
+    let new : get_or sums p 0 + c.long.result ≤ (r + 1) * 2 ^ 32 = omega (arith, c.long.ensures.1) in (
+      omega arith,
+      omega arith,
+      length-set sums p _ ∙ c.loop-r.invariant.2,
+      λ q.
+          let old = c.loop-r.invariant.3 q in
+          entry_set (λ (x : ℕ). x ≤ (r + 1) * 2 ^ 32) sums p (get_or sums p 0 + c.long.result) q new (omega arith),
+      λ tree e q inside.
+          rw (add-one, c.wide-p.ensures.0, c.long.ensures.0, ← e)
+          (sums_turn tree c.args.list.now sums r c.loop-r.invariant.0 c.loop-r.invariant.2 (c.loop-r.invariant.4 tree e) q inside),
+    )
+
+pub returns : goal.returns
+returns c tree e p inside =
+    let s = c in
+    c.loop.invariant.4 tree e p inside
+    ∙ sums_end tree s.args.list.now p s.args.n c.loop.r (omega arith) (omega arith)

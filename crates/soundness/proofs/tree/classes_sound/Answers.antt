@@ -1,0 +1,40 @@
+-- `classes_sound` meets its contract: the rows passed are sound.
+-- Assumes nothing.
+use Prim.Native.Nat.{◌-◌, ◌≤◌, ◌<◌}
+use mathlib.Core.Path.{◌≡◌, refl, sym, ◌∙◌}
+use mathlib.Core.Bool.{true, ◌||◌}
+use native.Mathlib.Numerals.{add-one}
+use native.Mathlib.Omega.{arith}
+use borrow.Author.Rules.{rules}
+use borrow.Author.Tests.{ne_eqb, not-true, not-false}
+use lib.Dec.{eqb}
+use Rattle.input.specs.Classes.{Tree}
+use Rattle.live_rules.specs.Soundness.{all, class_sound}
+use Rattle.live_rules.proofs.Alls.{all_next, all_fails}
+use Rattle.soundness.proofs.tree.classes_sound.Goals as goal
+
+pub loop-r-init : goal.loop-r-init
+unfolding all
+loop-r-init c = (omega arith, omega arith, λ tree e1 e2 e3 e4. refl)
+
+pub returns-then-not-class_sound : goal.returns-then-not-class_sound
+returns-then-not-class_sound c tree e1 e2 e3 e4 =
+    let at = c in
+    let r = at.loop.r in
+    let this = sym (c.class_sound.ensures tree e1 e2 e3 e4) ∙ not-true c.class_sound.result c.if1.true in
+    sym (all_fails at.args.n (λ q. eqb q 0 || class_sound tree q) r (omega arith) (rw (ne_eqb r 0 (omega arith)) this))
+
+pub loop-r-preserved : goal.loop-r-preserved
+loop-r-preserved c =
+    let r = c.loop-r.r in (
+      omega arith,
+      omega arith,
+      λ tree e1 e2 e3 e4.
+          let this = sym (c.class_sound.ensures tree e1 e2 e3 e4) ∙ not-false c.class_sound.result c.if-not-class_sound.false in
+          rw add-one (all_next r (λ q. eqb q 0 || class_sound tree q) (c.loop-r.invariant.2 tree e1 e2 e3 e4) (rw (ne_eqb r 0 (omega arith)) this)),
+    )
+
+pub returns : goal.returns
+returns c tree e1 e2 e3 e4 =
+    let end : c.loop.r ≡ c.args.n = omega arith in
+    sym (rw end at (c.loop.invariant.2 tree e1 e2 e3 e4))

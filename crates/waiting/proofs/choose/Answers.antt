@@ -1,0 +1,13 @@
+-- `waiting::choose` meets its contract.
+-- Assumes nothing.
+use borrow.Author.Rules.{rules}
+use Rattle.waiting.specs.Waiting.{child_of, rest_of}
+use Rattle.waiting.proofs.Turns.{ready_at}
+use Rattle.waiting.proofs.choose.Goals as goal
+
+pub returns : goal.returns
+unfolding child_of rest_of
+returns c =
+    let time = c.raise-time.ensures c.args.left.now c.args.right.now in
+    let all = ready_at _ _ _ _ _ _ _ _ time c.ripen.ensures in
+    (rw (← all) c.take-child.ensures.value, (time, rw (← all) c.take-child.ensures.right_after))
