@@ -10,7 +10,7 @@ use tables::row_of;
 use words::{long, wide, word};
 
 // A packet: its record, the byte at which that begins, its event, and its class, length and code point.
-#[derive(Drop)]
+#[derive(Clone, Copy)]
 struct Packet {
     record: u64,
     byte: u64,

@@ -22,14 +22,14 @@ use rows::row_of;
 use tables::Reading;
 
 // An event as it is checked: what refuses it, and where nothing does the row that it is for.
-#[derive(Drop)]
+#[derive(Clone, Copy)]
 pub struct EventCheck {
     pub refusal: Refusal,
     pub row: u8,
 }
 
 // The list of events as it is checked: the first refusal, and where there is none the row that each event is for.
-#[derive(Drop)]
+#[derive(Clone, Copy)]
 struct ListCheck {
     refusal: Refusal,
     rows: EventRows,
@@ -37,7 +37,7 @@ struct ListCheck {
 
 // What the check of a whole input answers: the first refusal, and where there is none the table as it was read, and for each event
 // the row of its class, 0 for a finish; all zero where something is refused.
-#[derive(Drop)]
+#[derive(Clone, Copy)]
 pub struct Checked {
     pub reading: Reading,
     pub event_rows: EventRows,

@@ -11,7 +11,7 @@ const WORDS: usize = 131849;
 // How far a line is read: what it asks, its first byte (0 before that); whether its label has begun, and its lists; which list is
 // read, how many words all lists have so far, and where each list that is read ends; and the number that is read, with the byte
 // that says what it is for (0 where there is none).
-#[derive(Drop)]
+#[derive(Clone, Copy)]
 struct State {
     question: u8,
     labelled: bool,

@@ -26,7 +26,7 @@ use input::{RowLongs, RowWords, TICKS};
 use rules::{Choice, Why};
 
 // How a row finds the child that it takes: by looking at its children one after another, or by its two heaps.
-#[derive(Drop)]
+#[derive(Clone, Copy)]
 pub enum Way {
     Looking,
     Heaps,

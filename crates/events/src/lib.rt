@@ -14,7 +14,7 @@ use input::{RowLongs, RowWords};
 use rules::Why;
 
 // Where an event leads before the way up: why rows choose then, the row from which the way up is gone, and its depth; and whether the line is idle.
-#[derive(Drop)]
+#[derive(Clone, Copy)]
 struct Front {
     why: Why,
     row: usize,

@@ -18,7 +18,7 @@ pub use tables::{first_bytes, load_table, say_fault};
 pub use whole::{load_capture, load_text};
 
 // How a program ends: it is done, what it was given is refused, or it could not read, write or understand the call.
-#[derive(Drop)]
+#[derive(Clone, Copy)]
 pub enum Status {
     Done,
     Refused,
@@ -26,7 +26,7 @@ pub enum Status {
 }
 
 // Why the system does not give a file, as far as that is told apart; otherwise its number of the error.
-#[derive(Drop)]
+#[derive(Clone, Copy)]
 pub enum Unread {
     Missing,
     Folder,
@@ -36,7 +36,7 @@ pub enum Unread {
 }
 
 // Why it does not take the results, likewise.
-#[derive(Drop)]
+#[derive(Clone, Copy)]
 pub enum Unwritten {
     Full,
     Closed,
@@ -44,7 +44,7 @@ pub enum Unwritten {
 }
 
 // What came of reading a file, and how many lines of numbers it has where that is done.
-#[derive(Drop)]
+#[derive(Clone, Copy)]
 pub struct Loaded {
     pub status: Status,
     pub rows: u64,
@@ -52,7 +52,7 @@ pub struct Loaded {
 
 // Whether a text could be read, the system's error where not, and how many bytes it has; where that is more than were lent, one more
 // than were lent.
-#[derive(Drop)]
+#[derive(Clone, Copy)]
 pub struct Held {
     pub good: bool,
     pub error: i32,
@@ -60,7 +60,7 @@ pub struct Held {
 }
 
 // How far a list of events is read: whether more may come, whether a read failed, with the system's error, and the scan.
-#[derive(Drop)]
+#[derive(Clone, Copy)]
 pub struct Turn {
     pub more: bool,
     pub failed: bool,
@@ -69,7 +69,7 @@ pub struct Turn {
 }
 
 // One read: whether it failed, the system's error, and how many bytes it gave, which are none at the end of a file.
-#[derive(Drop)]
+#[derive(Clone, Copy)]
 pub struct Part {
     pub failed: bool,
     pub error: i32,

@@ -6,7 +6,7 @@ use input::Refusal;
 
 // Where the next byte of a table's text stands: after so many bytes of the heading, where a field begins, from 0, within a field
 // that is this number so far, after the CR of a line, or behind a fault.
-#[derive(Drop)]
+#[derive(Clone, Copy)]
 pub enum Place {
     Heading(u32),
     Due(u32),
@@ -16,7 +16,7 @@ pub enum Place {
 }
 
 // A table's text as far as it is read: the lines that have ended, where the next byte stands, and the numbers of its line.
-#[derive(Drop)]
+#[derive(Clone, Copy)]
 pub struct Scan {
     pub lines: u64,
     pub place: Place,
@@ -26,7 +26,7 @@ pub struct Scan {
 }
 
 // What came of reading rows: the fault of the text, else how many rows it has, and whether the slices had room for them.
-#[derive(Drop)]
+#[derive(Clone, Copy)]
 pub struct Rows {
     pub fault: Refusal,
     pub rows: u64,

@@ -39,7 +39,7 @@ fn comes_before(keys: &Keys, ties: &Ties, x: u8, y: u8) -> bool
     own < its
 }
 
-#[derive(Drop)]
+#[derive(Clone, Copy)]
 struct Two {
     first: u8,
     second: u8,

@@ -10,7 +10,7 @@ pub use packets::{firsts_of, packets_sound};
 pub use rows::{matches_of, rows_sound};
 
 // For each class how many packets it holds, and its first packet's name + 1 and bytes, both 0 where there is none.
-#[derive(Drop)]
+#[derive(Clone, Copy)]
 pub struct Firsts {
     pub counts: RowWords,
     pub words: RowWords,

@@ -68,7 +68,7 @@ pub type OnAirRows = [u8; ON_AIR_IDENTIFIERS];
 // ── what is put in, and what is answered ──
 
 // An event: a packet of `length` bytes has arrived for the class with this identifier, or the line has finished its packet.
-#[derive(Drop)]
+#[derive(Clone, Copy)]
 pub enum Event {
     Arrival { class: u32, length: u32 },
     Finish,
@@ -92,7 +92,7 @@ pub fn on_air(identifier: u32) -> usize
 }
 
 // Why an input is refused, and where. Number 0 refuses nothing.
-#[derive(Drop)]
+#[derive(Clone, Copy)]
 pub struct Refusal {
     pub number: u32,
     pub place: u32,
@@ -100,7 +100,7 @@ pub struct Refusal {
 }
 
 // What a run answers: number 0 where it is done, else the refusal; and how many packets went on the line.
-#[derive(Drop)]
+#[derive(Clone, Copy)]
 pub struct Answer {
     pub number: u32,
     pub place: u32,

@@ -21,7 +21,7 @@ use next::{arrived_after, due_after, next_event};
 pub use next::{sending, stamp_of};
 
 // After an event: what refuses it, else how many packets have arrived, when the one on the line is finished, and how many went there.
-#[derive(Drop)]
+#[derive(Clone, Copy)]
 struct Turn {
     refusal: Refusal,
     arrived: u32,

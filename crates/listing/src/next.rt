@@ -7,7 +7,7 @@ ghost use Rattle.listing.specs.Next.{NextOf};
 use words::{wide, word};
 
 // The next event: whether it is a finish, its two words, and its moment.
-#[derive(Drop)]
+#[derive(Clone, Copy)]
 pub struct Next {
     pub finish: bool,
     pub class: u32,

@@ -16,7 +16,7 @@ pub const EVENTS: usize = 3;
 
 // How far a list is taken: whether more may come, how it ends as far as it is known, how many events were read, and the scan, in which only
 // the heading is counted.
-#[derive(Drop)]
+#[derive(Clone, Copy)]
 struct Taken {
     more: bool,
     status: Status,

@@ -15,7 +15,7 @@ use check::same;
 use files::{Status, argument_is_input, complain, end_with};
 
 // What a call asks for, by its first word.
-#[derive(Drop)]
+#[derive(Clone, Copy)]
 enum Asked {
     Fresh,
     Events,

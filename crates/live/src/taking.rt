@@ -17,7 +17,7 @@ pub const MOST_A_READ: usize = 16384;
 const ANSWERS_BYTES: usize = 106 * MOST_A_READ;
 
 // What is put so far: how much of the page is used, and whether an event was taken and one refused.
-#[derive(Drop)]
+#[derive(Clone, Copy)]
 struct Put {
     used: usize,
     taken: bool,

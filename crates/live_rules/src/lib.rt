@@ -54,7 +54,7 @@ pub const STATE_WORDS: usize = 6912;
 // ── what a call answers ──
 
 // Number 0 where the event is taken, else the refusal; how many packets went on the line, none or one, and the name of that one, else 0.
-#[derive(Drop)]
+#[derive(Clone, Copy)]
 pub struct LiveAnswer {
     pub number: u32,
     pub place: u32,

@@ -16,7 +16,7 @@ use input::{RowLongs, RowWords};
 use rules::Why;
 
 // How many packets went on the line, none or one, and the name of that one, else 0.
-#[derive(Drop)]
+#[derive(Clone, Copy)]
 pub struct Sent {
     pub count: u32,
     pub packet: u32,

@@ -2,14 +2,14 @@
 #![tactic(auto)]
 
 // The highest byte of a number comes first, or the lowest; and the fractions of a second are nanoseconds, or microseconds.
-#[derive(Drop)]
+#[derive(Clone, Copy)]
 pub struct Layout {
     pub big: bool,
     pub nano: bool,
 }
 
 // The identifiers of the classes that packets are put in by their code points.
-#[derive(Drop)]
+#[derive(Clone, Copy)]
 pub struct Sorting {
     pub first: u32,
     pub second: u32,

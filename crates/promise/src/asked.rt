@@ -10,7 +10,7 @@ use sentences::put_packet_bytes;
 use text::Field;
 
 // The three numbers, or the first fault.
-#[derive(Drop)]
+#[derive(Clone, Copy)]
 pub enum Asked {
     Numbers {
         largest: u32,

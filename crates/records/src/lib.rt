@@ -44,7 +44,7 @@ pub const LEAST_HEADER: usize = 20;
 
 // What the check of a capture answers: the first refusal, 30 to 38, and where there is none how the numbers are stored and how many
 // records there are.
-#[derive(Drop)]
+#[derive(Clone, Copy)]
 pub struct Scan {
     pub refusal: Refusal,
     pub layout: Layout,

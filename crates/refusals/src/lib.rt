@@ -13,7 +13,7 @@ use input::{MOST_ROWS, Refusal, RowWords, WHOLE};
 
 // What refuses the table before its rows are looked at; otherwise of each row the number that refuses it, the second place of that, 10
 // where the row's children have too much together, and the tree as the rows make it. A number is 0 where nothing is refused.
-#[derive(Drop)]
+#[derive(Clone, Copy)]
 pub struct Judged {
     pub refusal: Refusal,
     pub numbers: RowWords,

@@ -2,14 +2,14 @@
 #![tactic(auto)]
 
 // The packet that was its head has just finished, or a packet has arrived below it while it had no head.
-#[derive(Drop)]
+#[derive(Clone, Copy)]
 pub enum Why {
     Finished,
     Arrived,
 }
 
 // The child that a row takes, 0 where none has a head, and the row's virtual time, raised.
-#[derive(Drop)]
+#[derive(Clone, Copy)]
 pub struct Choice {
     pub child: u8,
     pub time: u64,

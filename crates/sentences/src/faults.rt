@@ -13,7 +13,7 @@ use output::put_text;
 const MOST_TABLE_BYTES: u32 = 4371;
 
 // How far a text is read: the bytes before its fault, and the scan of these.
-#[derive(Drop)]
+#[derive(Clone, Copy)]
 struct Stop {
     at: usize,
     scan: Scan,

@@ -13,7 +13,7 @@ use words::word;
 
 // A number of bytes as a fraction in lowest terms; where `fits` is false the working has outgrown 64 bits, or met a share of 0, and the
 // other two are 0.
-#[derive(Drop)]
+#[derive(Clone, Copy)]
 pub struct Figure {
     pub fits: bool,
     pub numerator: u64,

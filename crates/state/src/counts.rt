@@ -10,7 +10,7 @@ use input::MOST_ROWS;
 use live_rules::{ACCEPTED_WORD, HELD_AT, MOST_ACCEPTED, MOST_HELD, ROWS_WORD};
 
 // The counts, and whether they are as many as there can be.
-#[derive(Drop)]
+#[derive(Clone, Copy)]
 pub struct Counts {
     pub few: bool,
     pub rows: usize,

@@ -13,7 +13,7 @@ mod reading;
 use input::{RowLongs, RowMarks, RowWords};
 
 // A state as it was read: whether it is sound, and where it is, its numbers as arrays with an entry for each row that there can be.
-#[derive(Drop)]
+#[derive(Clone, Copy)]
 pub struct State {
     pub identifiers: RowWords,
     pub parents: RowWords,

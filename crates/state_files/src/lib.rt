@@ -14,7 +14,7 @@ pub use replacing::store_state;
 pub const STATE_BYTES: usize = 8 * STATE_WORDS;
 
 // What came of reading a state: its words are read, the file has another size, or it could not be read.
-#[derive(Drop)]
+#[derive(Clone, Copy)]
 pub enum Reading {
     Whole,
     Otherwise,
@@ -22,7 +22,7 @@ pub enum Reading {
 }
 
 // Why the system does not take a state, as far as that is told apart; otherwise as for a file that is read.
-#[derive(Drop)]
+#[derive(Clone, Copy)]
 pub enum Unstored {
     Full,
     Forbidden,
@@ -31,7 +31,7 @@ pub enum Unstored {
 }
 
 // What came of a step of writing: whether it failed, and the system's error.
-#[derive(Drop)]
+#[derive(Clone, Copy)]
 pub struct Step {
     pub failed: bool,
     pub error: i32,

@@ -60,7 +60,7 @@ pub fn fill_words(state: &[u64], at: usize, n: usize, most: u64, list: &mut RowW
 }
 
 // Such a list by value, where each word fits.
-#[derive(Drop)]
+#[derive(Clone, Copy)]
 pub struct Narrow {
     pub fits: bool,
     pub list: RowWords,
@@ -287,7 +287,7 @@ pub fn find_packet(state: &[u64], m: usize, name: u64) -> usize
 }
 
 // A class's next packet: its name + 1 and its length; 0 and 0 where there is none.
-#[derive(Drop)]
+#[derive(Clone, Copy)]
 pub struct Next {
     pub word: u32,
     pub size: u32,

@@ -18,7 +18,7 @@ use input::{
 use words::wide;
 
 // A row of a table as it is read: what refuses it, its parent's row, its depth.
-#[derive(Drop)]
+#[derive(Clone, Copy)]
 struct Row {
     refusal: Refusal,
     parent: u32,
@@ -27,7 +27,7 @@ struct Row {
 
 // All rows as they are read: the first refusal, and of each row the number that refuses it, which is 0 where none does, the second place of
 // that, the parent's row, the depth and the share.
-#[derive(Drop)]
+#[derive(Clone, Copy)]
 pub struct Rows {
     pub refusal: Refusal,
     pub numbers: RowWords,
@@ -38,7 +38,7 @@ pub struct Rows {
 }
 
 // What a check answers: the first refusal, and where there is none the table as it was read, with the rows that are sending classes.
-#[derive(Drop)]
+#[derive(Clone, Copy)]
 pub struct Reading {
     pub refusal: Refusal,
     pub parents: RowWords,

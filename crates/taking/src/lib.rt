@@ -8,7 +8,7 @@ use input::{RowLongs, RowWords};
 pub use take::{take_arrival, take_finish};
 
 // All that an event can change of the rows; how many packets it put on the line, none or one, and the name of that one, else 0.
-#[derive(Drop)]
+#[derive(Clone, Copy)]
 pub struct Moved {
     pub count: u32,
     pub packet: u32,

@@ -11,7 +11,7 @@ pub use bytes::{begin, feed, finish, wrong};
 pub use digits::number;
 
 // A field as far as it is read: nothing yet, a number, digits that come to more than a number may be, or something else.
-#[derive(Drop)]
+#[derive(Clone, Copy)]
 pub enum Field {
     Empty,
     Number(u32),
@@ -21,7 +21,7 @@ pub enum Field {
 
 // A line as far as it is read: how many bytes of the heading it has, while it has no others; the commas, where 2 stands for two
 // or more; the first two fields; and whether a CR was read last, which is part of the line only if no LF follows.
-#[derive(Drop)]
+#[derive(Clone, Copy)]
 pub struct Line {
     pub agreed: u32,
     pub commas: u32,
@@ -32,7 +32,7 @@ pub struct Line {
 
 // What the byte read last has shown: nothing, a whole line of numbers, or what is wrong with the line, and in which field,
 // from 1.
-#[derive(Drop)]
+#[derive(Clone, Copy)]
 pub enum Found {
     Nothing,
     Row { first: u32, second: u32 },
@@ -44,7 +44,7 @@ pub enum Found {
 }
 
 // A file as far as it is read: its good lines that have ended, whether it stands within a line, and that line.
-#[derive(Drop)]
+#[derive(Clone, Copy)]
 pub struct Scan {
     pub lines: u64,
     pub inside: bool,

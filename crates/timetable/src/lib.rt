@@ -32,7 +32,7 @@ pub const PACKETS_BYTES: usize = 148 * MOST_PACKETS;
 pub const MOST_FREE: u64 = 4611686018427387904;
 
 // What is put so far: how much of the page is used, and when the line is free again.
-#[derive(Drop)]
+#[derive(Clone, Copy)]
 pub struct Put {
     pub used: usize,
     pub free: u64,

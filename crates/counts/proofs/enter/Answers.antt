@@ -22,23 +22,22 @@ loop-to_enter-init c = (
   marked_none,
   marked_none,
   omega (arith, c.entry-to_enter.ensures),
-  λ i inside. omega (arith, c.requires.1.1.1 i inside),
+  λ i inside. omega (arith, c.requires.fact_4 i inside),
 )
 
 pub enter_at-requires : goal.enter_at-requires
-enter_at-requires c =
-    (c.loop-to_enter.invariant.0, (c.requires.1.0, omega (arith, c.loop-to_enter.invariant.7 c.loop-to_enter.r c.loop-to_enter.invariant.0)))
+enter_at-requires c = record { fact_1 = c.loop-to_enter.invariant.0; fact_2 = c.requires.fact_2; fact_3 = omega (arith, c.loop-to_enter.invariant.7 c.loop-to_enter.r c.loop-to_enter.invariant.0) }
 
 pub loop-to_enter-preserved : goal.loop-to_enter-preserved
 loop-to_enter-preserved c =
     let test : 0 < c.loop-to_enter.to_enter = omega (arith, c.loop-to_enter-test.true) in
     let here = c.loop-to_enter.invariant.7 c.loop-to_enter.r c.loop-to_enter.invariant.0 in (
-      omega (arith, c.entry-r.ensures, c.requires.1.0 c.loop-to_enter.r c.loop-to_enter.invariant.0),
+      omega (arith, c.entry-r.ensures, c.requires.fact_2 c.loop-to_enter.r c.loop-to_enter.invariant.0),
       remains_less test c.entry-r.ensures c.enter_at.ensures.held_after c.loop-to_enter.invariant.1,
-      remains_less test c.entry-r.ensures (marked_as c.loop-to_enter.r c.loop-to_enter.invariant.4 c.enter_at.ensures.since_after.0) c.loop-to_enter.invariant.2,
-      remains_less test c.entry-r.ensures (marked_as c.loop-to_enter.r c.loop-to_enter.invariant.5 c.enter_at.ensures.since_after.1) c.loop-to_enter.invariant.3,
-      marked_more c.loop-to_enter.r c.loop-to_enter.invariant.4 c.enter_at.ensures.since_after.0 c.enter_at.ensures.held_after,
-      marked_more c.loop-to_enter.r c.loop-to_enter.invariant.5 c.enter_at.ensures.since_after.1 c.enter_at.ensures.held_after,
+      remains_less test c.entry-r.ensures (marked_as c.loop-to_enter.r c.loop-to_enter.invariant.4 c.enter_at.ensures.since_after) c.loop-to_enter.invariant.2,
+      remains_less test c.entry-r.ensures (marked_as c.loop-to_enter.r c.loop-to_enter.invariant.5 c.enter_at.ensures.parent_since_after) c.loop-to_enter.invariant.3,
+      marked_more c.loop-to_enter.r c.loop-to_enter.invariant.4 c.enter_at.ensures.since_after c.enter_at.ensures.held_after,
+      marked_more c.loop-to_enter.r c.loop-to_enter.invariant.5 c.enter_at.ensures.parent_since_after c.enter_at.ensures.held_after,
       omega arith,
       λ i inside.
           rw c.enter_at.ensures.held_after
@@ -47,14 +46,11 @@ loop-to_enter-preserved c =
     )
 
 pub enter_at-requires-2 : goal.enter_at-requires-2
-enter_at-requires-2 c =
-    (c.loop-to_enter.invariant.0, (c.requires.1.0, omega (arith, c.loop-to_enter.invariant.7 c.loop-to_enter.r c.loop-to_enter.invariant.0)))
+enter_at-requires-2 c = record { fact_1 = c.loop-to_enter.invariant.0; fact_2 = c.requires.fact_2; fact_3 = omega (arith, c.loop-to_enter.invariant.7 c.loop-to_enter.r c.loop-to_enter.invariant.0) }
 
 pub returns : goal.returns
 returns c tree box place size by counts =
-    let at = c in
-    let over : at.loop.to_enter ≤ 0 = omega (arith, c.loop-test.false) in
-    let done = c.enter-at2.ensures in
-    entered tree box place size _ _ _ _ _ _ _ _ _ _ by counts (remains_last over done.0 at.loop.invariant.1)
-    (remains_last over (marked_as at.loop.r at.loop.invariant.4 done.1.0) at.loop.invariant.2)
-    (remains_last over (marked_as at.loop.r at.loop.invariant.5 done.1.1) at.loop.invariant.3)
+    let over : c.loop-to_enter.to_enter ≤ 0 = omega (arith, c.loop-to_enter-test.false) in
+    entered tree box place size _ _ _ _ _ _ _ _ _ _ by counts (remains_last over c.enter_at-2.ensures.held_after c.loop-to_enter.invariant.1)
+    (remains_last over (marked_as c.loop-to_enter.r c.loop-to_enter.invariant.4 c.enter_at-2.ensures.since_after) c.loop-to_enter.invariant.2)
+    (remains_last over (marked_as c.loop-to_enter.r c.loop-to_enter.invariant.5 c.enter_at-2.ensures.parent_since_after) c.loop-to_enter.invariant.3)

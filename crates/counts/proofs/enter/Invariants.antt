@@ -16,7 +16,7 @@ use Rattle.counts.proofs.enter.Given as goal
 abbrev pub invariant-loop-to_enter : goal.invariant-loop-to_enter
 invariant-loop-to_enter l =
     (l.r < most_rows)
-    × Remains (path_tree l.parents l.depths) (λ l.r n. suc n) l.k l.initial.held l.to_enter l.r l.held
+    × Remains (path_tree l.parents l.depths) (λ r' n. suc n) l.k l.initial.held l.to_enter l.r l.held
     × Remains (path_tree l.parents l.depths) (begun l.initial.held (own l.bytes)) l.k l.initial.since l.to_enter l.r l.since
     × Remains (path_tree l.parents l.depths) (begun l.initial.held (above l.parents l.bytes)) l.k l.initial.parent_since l.to_enter l.r l.parent_since
     × Marked l.initial.held (own l.bytes) l.held l.since

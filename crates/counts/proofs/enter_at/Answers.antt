@@ -5,4 +5,4 @@ use borrow.Author.Rules.{rules}
 use Rattle.counts.proofs.enter_at.Goals as goal
 
 pub returns : goal.returns
-returns c = (rw add-one, (c.begin_at.ensures.since_after, c.begin_at.ensures.parent_since_after))
+returns c = record { held_after = rw add-one; since_after = c.begin_at.ensures.since_after; parent_since_after = c.begin_at.ensures.parent_since_after }

@@ -18,18 +18,17 @@ loop-to_leave-init c = (
   remains_all c.entry-to_leave.ensures,
   remains_all c.entry-to_leave.ensures,
   omega (arith, c.entry-to_leave.ensures),
-  λ i inside. omega (arith, c.requires.1.1.1 i inside),
+  λ i inside. omega (arith, c.requires.fact_4 i inside),
 )
 
 pub leave_at-requires : goal.leave_at-requires
-leave_at-requires c =
-    (c.loop-to_leave.invariant.0, (omega (arith, c.loop-to_leave.invariant.4 c.loop-to_leave.r c.loop-to_leave.invariant.0), c.ranges.length.fits))
+leave_at-requires c = record { fact_1 = c.loop-to_leave.invariant.0; fact_2 = omega (arith, c.loop-to_leave.invariant.4 c.loop-to_leave.r c.loop-to_leave.invariant.0); fact_3 = c.ranges.length.fits }
 
 pub loop-to_leave-preserved : goal.loop-to_leave-preserved
 loop-to_leave-preserved c =
     let test : 0 < c.loop-to_leave.to_leave = omega (arith, c.loop-to_leave-test.true) in
     let here = c.loop-to_leave.invariant.4 c.loop-to_leave.r c.loop-to_leave.invariant.0 in (
-      omega (arith, c.entry-r.ensures, c.requires.1.0 c.loop-to_leave.r c.loop-to_leave.invariant.0),
+      omega (arith, c.entry-r.ensures, c.requires.fact_2 c.loop-to_leave.r c.loop-to_leave.invariant.0),
       remains_less test c.entry-r.ensures c.leave_at.ensures.bytes_after c.loop-to_leave.invariant.1,
       remains_less test c.entry-r.ensures c.leave_at.ensures.held_after c.loop-to_leave.invariant.2,
       omega arith,
@@ -41,13 +40,10 @@ loop-to_leave-preserved c =
     )
 
 pub leave_at-requires-2 : goal.leave_at-requires-2
-leave_at-requires-2 c =
-    (c.loop-to_leave.invariant.0, (omega (arith, c.loop-to_leave.invariant.4 c.loop-to_leave.r c.loop-to_leave.invariant.0), c.ranges.length.fits))
+leave_at-requires-2 c = record { fact_1 = c.loop-to_leave.invariant.0; fact_2 = omega (arith, c.loop-to_leave.invariant.4 c.loop-to_leave.r c.loop-to_leave.invariant.0); fact_3 = c.ranges.length.fits }
 
 pub returns : goal.returns
 returns c tree box since parent_since by class long counts =
-    let at = c in
-    let over : at.loop.to_leave ≤ 0 = omega (arith, c.loop-test.false) in
-    let done = c.leave-at2.ensures in
-    left tree box _ _ _ _ _ _ _ _ _ _ by class long counts (remains_last over done.0 at.loop.invariant.1)
-    (remains_last over done.1 at.loop.invariant.2)
+    let over : c.loop-to_leave.to_leave ≤ 0 = omega (arith, c.loop-to_leave-test.false) in
+    left tree box _ _ _ _ _ _ _ _ _ _ by class long counts (remains_last over c.leave_at-2.ensures.bytes_after c.loop-to_leave.invariant.1)
+    (remains_last over c.leave_at-2.ensures.held_after c.loop-to_leave.invariant.2)

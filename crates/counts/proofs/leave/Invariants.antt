@@ -15,8 +15,8 @@ use Rattle.counts.proofs.leave.Given as goal
 abbrev pub invariant-loop-to_leave : goal.invariant-loop-to_leave
 invariant-loop-to_leave l =
     (l.r < most_rows)
-    × Remains (path_tree l.parents l.depths) (λ l.r n. n + l.length) l.k l.initial.bytes l.to_leave l.r l.bytes
-    × Remains (path_tree l.parents l.depths) (λ l.r n. pred n) l.k l.initial.held l.to_leave l.r l.held
+    × Remains (path_tree l.parents l.depths) (λ r' n. n + l.length) l.k l.initial.bytes l.to_leave l.r l.bytes
+    × Remains (path_tree l.parents l.depths) (λ r' n. pred n) l.k l.initial.held l.to_leave l.r l.held
     × (l.to_leave ≤ 8)
     × ((i : ℕ) → i < most_rows → get_or l.bytes i 0 ≤ most_finished + (8 - l.to_leave) * 2 ^ 32)
 

@@ -13,7 +13,4 @@ pub returns-then-held-r-gt0 : goal.returns-then-held-r-gt0
 returns-then-held-r-gt0 c = record { bytes_after = refl; held_after = rw sub-one }
 
 pub returns-else-held-r-gt0 : goal.returns-else-held-r-gt0
-returns-else-held-r-gt0 c = let a = c.args in
-    let none : get_or a.held.now a.r 0 ≡ 0 = omega (arith, c.if-held-r-gt0.false) in
-    let same : pred (get_or a.held.now a.r 0) ≡ get_or a.held.now a.r 0 = rw none in
-    record { bytes_after = refl; held_after = rw same (sym (set-get_or _ _ 0)) }
+returns-else-held-r-gt0 c = let a = c.args in let none : get_or a.held.now a.r 0 ≡ 0 = omega (arith, c.if-held-r-gt0.false) in let same : pred (get_or a.held.now a.r 0) ≡ get_or a.held.now a.r 0 = rw none in record { bytes_after = refl; held_after = rw same (sym (set-get_or _ _ 0)) }

@@ -12,17 +12,6 @@ use Rattle.sheet.proofs.Tests.{passed, failed}
 use Rattle.sheet.proofs.Figures.{denominator_some, stays_outgrown, over_nothing, steps_up, too_many}
 use Rattle.sheet.proofs.up_by_share.Goals as goal
 
--- past the first two tests a sum that is too large has outgrown the words
-outgrows :
-    (c : tie.After-lowest)
-    → limit
-    ≤ c.before.before.before.before.args.from.numerator
-    + packets_a_step * c.before.before.before.before.args.largest * c.before.before.before.before.args.from.denominator
-    → outgrown
-    ≡ by_share c.before.before.before.before.args.largest c.before.before.before.before.args.share
-    c.before.before.before.before.args.from
-outgrows c large = sym (too_many _ _ _ (not-false _ c.before.before.if1.false) c.before.if2.false large)
-
 pub returns-then-not-from : goal.returns-then-not-from
 returns-then-not-from c = c.outgrown.ensures ∙ sym (stays_outgrown _ _ _ (not-true _ c.if-not-from.true))
 
@@ -34,7 +23,9 @@ returns-then-not-product_fits c =
     let args = c.args in
     let large : limit ≤ packets_a_step * args.largest * args.from.denominator =
     failed _ _ _ c.product_fits.ensures (not-true _ c.if-not-product_fits.true) in
-    c.outgrown-then-not-product_fits.ensures ∙ outgrows c (omega arith)
+    c.outgrown-then-not-product_fits.ensures ∙ (λ (large : limit
+    ≤ c.args.from.numerator
+    + packets_a_step * c.args.largest * c.args.from.denominator). sym (too_many _ _ _ (not-false _ c.if-not-from.false) c.if-share-eq0.false large)) (omega arith)
 
 pub overflow_mul-more : goal.overflow_mul-more
 overflow_mul-more c =
@@ -43,7 +34,9 @@ overflow_mul-more c =
 pub returns-then-not-sum_fits : goal.returns-then-not-sum_fits
 returns-then-not-sum_fits c =
     c.outgrown-then-not-sum_fits.ensures
-    ∙ outgrows c (failed _ _ _ c.sum_fits.ensures (not-true _ c.if-not-sum_fits.true))
+    ∙ (λ (large : limit
+    ≤ c.args.from.numerator
+    + packets_a_step * c.args.largest * c.args.from.denominator). sym (too_many _ _ _ (not-false _ c.if-not-from.false) c.if-share-eq0.false large)) (failed _ _ _ c.sum_fits.ensures (not-true _ c.if-not-sum_fits.true))
 
 pub overflow_add-from : goal.overflow_add-from
 overflow_add-from c =

@@ -7,8 +7,8 @@ use Rattle.soundness.proofs.seen.with_bit.Goals as goal
 pub overflow_add-result : goal.overflow_add-result
 overflow_add-result c =
     record {
-      fits = rw (one_shifted c.args.k c.requires.0) (bit_fits c.args.word c.args.k 64 c.ranges.word.fits c.requires.0 c.requires.1);
+      fits = rw (one_shifted c.args.k c.requires.k_lt_word_bits) (bit_fits c.args.word c.args.k 64 c.ranges.word.fits c.requires.k_lt_word_bits c.requires.k_value);
     }
 
 pub returns : goal.returns
-returns c = rw (one_shifted c.args.k c.requires.0)
+returns c = rw (one_shifted c.args.k c.requires.k_lt_word_bits)

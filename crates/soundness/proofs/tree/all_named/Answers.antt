@@ -23,21 +23,14 @@ loop-r-init c = (omega arith, refl, refl, λ x. met_start c.args.identifiers.now
 
 pub returns-then-not-is_new : goal.returns-then-not-is_new
 returns-then-not-is_new c tree e1 e2 =
-    let at = c in
-    let ids = at.args.identifiers.now in
-    let n = at.args.n in
-    let r = at.loop.r in
-    let this = sym (newly_test ids at.loop.table r at.loop.invariant.3) ∙ sym c.is-new.ensures ∙ not-true c.is-new.result c.if1.true in
+    let ids = c.args.identifiers.now in
+    let n = c.args.n in
+    let r = c.loop-r.r in
+    let this = sym (newly_test ids c.loop-r.table r c.loop-r.invariant.3) ∙ sym c.is_new.ensures ∙ not-true c.is_new.result c.if-not-is_new.true in
     sym (all_same n (named tree) (newly ids) (λ q inside. named_newly tree ids n q e2 inside) ∙ all_fails n (newly ids) r (omega arith) this)
 
 pub meet-requires : goal.meet-requires
-meet-requires c =
-    let x = get_or c.args.identifiers.now c.loop-r.r 0 in
-    let new = sym c.is_new.ensures ∙ not-false c.is_new.result c.if-not-is_new.false in
-    let later = both_right (ltb 0 x) (leb x most_identifier && not (met c.loop-r.table x)) new in (
-      leb-true x most_identifier (both_left (leb x most_identifier) (not (met c.loop-r.table x)) later),
-      (c.loop-r.invariant.1, not-true (met c.loop-r.table x) (both_right (leb x most_identifier) (not (met c.loop-r.table x)) later)),
-    )
+meet-requires c = let x = get_or c.args.identifiers.now c.loop-r.r 0 in let new = sym c.is_new.ensures ∙ not-false c.is_new.result c.if-not-is_new.false in let later = both_right (ltb 0 x) (leb x most_identifier && not (met c.loop-r.table x)) new in record { x_le_most_identifier = leb-true x most_identifier (both_left (leb x most_identifier) (not (met c.loop-r.table x)) later); table_len = c.loop-r.invariant.1; x_value = not-true (met c.loop-r.table x) (both_right (leb x most_identifier) (not (met c.loop-r.table x)) later) }
 
 pub loop-r-preserved : goal.loop-r-preserved
 loop-r-preserved c =
@@ -53,6 +46,5 @@ loop-r-preserved c =
 
 pub returns : goal.returns
 returns c tree e1 e2 =
-    let s = c in
-    let end : c.loop.r ≡ s.args.n = omega arith in
-    sym (all_same s.args.n (named tree) (newly s.args.identifiers.now) (λ r inside. named_newly tree s.args.identifiers.now s.args.n r e2 inside) ∙ (rw end at c.loop.invariant.2))
+    let end : c.loop-r.r ≡ c.args.n = omega arith in
+    sym (all_same c.args.n (named tree) (newly c.args.identifiers.now) (λ r inside. named_newly tree c.args.identifiers.now c.args.n r e2 inside) ∙ (rw end at c.loop-r.invariant.2))

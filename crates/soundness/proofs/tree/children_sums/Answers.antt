@@ -25,12 +25,12 @@ loop-r-init c = (
 
 pub offset_bounds-sums-p : goal.offset_bounds-sums-p
 offset_bounds-sums-p c =
-    let inside = c.requires.1 c.loop-r.r (omega arith) in
+    let inside = c.requires.inside c.loop-r.r (omega arith) in
     omega (arith, c.wide-p.ensures.0)
 
 pub bounds-sums-p : goal.bounds-sums-p
 bounds-sums-p c =
-    let inside = c.requires.1 c.loop-r.r (omega arith) in
+    let inside = c.requires.inside c.loop-r.r (omega arith) in
     omega (arith, c.wide-p.ensures.0)
 
 pub overflow_add-sums : goal.overflow_add-sums
@@ -40,7 +40,7 @@ overflow_add-sums c =
 
 pub bounds-sums-p-in-loop-r : goal.bounds-sums-p-in-loop-r
 bounds-sums-p-in-loop-r c =
-    let inside = c.requires.1 c.loop-r.r (omega arith) in
+    let inside = c.requires.inside c.loop-r.r (omega arith) in
     omega (arith, c.wide-p.ensures.0)
 
 pub loop-r-preserved : goal.loop-r-preserved
@@ -63,6 +63,5 @@ loop-r-preserved c =
 
 pub returns : goal.returns
 returns c tree e p inside =
-    let s = c in
-    c.loop.invariant.4 tree e p inside
-    ∙ sums_end tree s.args.list.now p s.args.n c.loop.r (omega arith) (omega arith)
+    c.loop-r.invariant.4 tree e p inside
+    ∙ sums_end tree c.args.list.now p c.args.n c.loop-r.r (omega arith) (omega arith)

@@ -19,10 +19,9 @@ loop-r-init c = (omega arith, omega arith, λ tree e1 e2 e3 e4. refl)
 
 pub returns-then-not-class_sound : goal.returns-then-not-class_sound
 returns-then-not-class_sound c tree e1 e2 e3 e4 =
-    let at = c in
-    let r = at.loop.r in
-    let this = sym (c.class_sound.ensures tree e1 e2 e3 e4) ∙ not-true c.class_sound.result c.if1.true in
-    sym (all_fails at.args.n (λ q. eqb q 0 || class_sound tree q) r (omega arith) (rw (ne_eqb r 0 (omega arith)) this))
+    let r = c.loop-r.r in
+    let this = sym (c.class_sound.ensures tree e1 e2 e3 e4) ∙ not-true c.class_sound.result c.if-not-class_sound.true in
+    sym (all_fails c.args.n (λ q. eqb q 0 || class_sound tree q) r (omega arith) (rw (ne_eqb r 0 (omega arith)) this))
 
 pub loop-r-preserved : goal.loop-r-preserved
 loop-r-preserved c =
@@ -36,5 +35,5 @@ loop-r-preserved c =
 
 pub returns : goal.returns
 returns c tree e1 e2 e3 e4 =
-    let end : c.loop.r ≡ c.args.n = omega arith in
-    sym (rw end at (c.loop.invariant.2 tree e1 e2 e3 e4))
+    let end : c.loop-r.r ≡ c.args.n = omega arith in
+    sym (rw end at (c.loop-r.invariant.2 tree e1 e2 e3 e4))

@@ -17,7 +17,7 @@ loop-r-init c = (omega arith, omega arith, refl, λ tree e p inside. senders_sta
 
 pub bounds-marks-wide : goal.bounds-marks-wide
 bounds-marks-wide c =
-    let inside = c.requires.1 c.loop-r.r (omega arith) in
+    let inside = c.requires.inside c.loop-r.r (omega arith) in
     omega (arith, c.wide.ensures.0)
 
 pub loop-r-preserved : goal.loop-r-preserved
@@ -33,5 +33,5 @@ loop-r-preserved c =
 
 pub returns : goal.returns
 returns c tree e1 e2 r inside =
-    let end : c.loop.r ≡ c.args.n = omega arith in
-    sends_is tree c.loop.r r (e1 ∙ sym end) ∙ c.loop.invariant.3 tree e2 r (omega arith)
+    let end : c.loop-r.r ≡ c.args.n = omega arith in
+    sends_is tree c.loop-r.r r (e1 ∙ sym end) ∙ c.loop-r.invariant.3 tree e2 r (omega arith)

@@ -42,14 +42,8 @@ returns-then-not-classes_sound c =
     (sym (three.ensures tree refl refl refl refl) ∙ not-true three.result c.if-not-classes_sound.true))
 
 pub children_sums-requires : goal.children_sums-requires
-children_sums-requires c =
-    let a = c.args in
-    let tree = tree_with a.n (take a.n a.identifiers.now) a.parents.now a.depths.now a.shares.now in
-    let one = c.root_sound in
-    let three = c.classes_sound in
-    let inside = parents_inside tree (sym (one.ensures tree refl refl refl) ∙ not-false one.result c.if-not-root_sound.false)
-    (sym (three.ensures tree refl refl refl refl) ∙ not-false three.result c.if-not-classes_sound.false) in
-    (search rules, λ r below. let this = inside r below in omega arith)
+children_sums-requires c = let a = c.args in let tree = tree_with a.n (take a.n a.identifiers.now) a.parents.now a.depths.now a.shares.now in let one = c.root_sound in let three = c.classes_sound in let inside = parents_inside tree (sym (one.ensures tree refl refl refl) ∙ not-false one.result c.if-not-root_sound.false)
+    (sym (three.ensures tree refl refl refl refl) ∙ not-false three.result c.if-not-classes_sound.false) in record { n_le_most_rows = search rules; inside = λ r below. let this = inside r below in omega arith }
 
 pub returns : goal.returns
 returns c =

@@ -1,0 +1,43 @@
+-- `report::write_lags` meets its contract. The loop's invariant: the lags of the rows passed are written over what was lent.
+-- Assumes nothing.
+use Prim.Native.Nat.{◌≤◌, ◌-◌}
+use mathlib.Core.Path.{◌≡◌, refl}
+use mathlib.Core.List.{[], ◌∷◌}
+use native.Mathlib.Numerals.{add-one}
+use native.Mathlib.Omega.{arith}
+use borrow.Author.Rules.{rules}
+use lib.ListN.{length, length-set}
+use mir.Syntax.{w64}
+use mir.ValLaws.{to_z-of_z}
+use Rattle.input.specs.Classes.{Tree}
+use Rattle.rules.specs.Box.{Box}
+use Rattle.rules.specs.Outcome.{lag, lags_of, over}
+use Rattle.rules.proofs.Results.{lags_length}
+use Rattle.counts.specs.Counts.{Counts}
+use Rattle.report.specs.Lags.{Shares}
+use Rattle.rules.proofs.Over.{over_more}
+use Rattle.report.proofs.write_lags.Goals as goal
+
+pub loop-r-init : goal.loop-r-init
+unfolding over lags_of
+loop-r-init c = (search rules, refl, λ tree box by counts. refl)
+
+pub lag_at-requires : goal.lag_at-requires
+lag_at-requires c = let given = c.requires.1.1 in let past = given.1.1.1 in record { fact_1 = search rules; fact_2 = given.0; fact_3 = given.1.0; fact_4 = given.1.1.0; fact_5 = record { own_grew = λ i below. past.own_grew i (omega arith); above_grew = λ i below. past.above_grew i (omega arith) } }
+
+pub loop-r-preserved : goal.loop-r-preserved
+unfolding lags_of
+loop-r-preserved c =
+    let r = c.loop-r.r in (
+      search rules,
+      simp length-set c.loop-r.invariant.1,
+      λ tree box by counts.
+          rw (to_z-of_z w64 c.lag_at.result (record { sfits = c.lag_at.type-inv }), c.lag_at.ensures tree box by counts, add-one)
+          (over_more (lags_of tree box r) (lag tree box r ∷ []) _ _ r (lags_length tree box r) (omega (arith, c.requires))
+          (c.loop-r.invariant.2 tree box by counts)),
+    )
+
+pub returns : goal.returns
+returns c tree box by counts =
+    let all : c.loop-r.r ≡ c.args.rows = omega arith in
+    rw (← all) (c.loop-r.invariant.2 tree box by counts)

@@ -1,0 +1,26 @@
+-- `tables::root_refused` meets its contract: each answer by the tests on its way.
+-- Assumes nothing.
+use borrow.Author.Rules.{rules}
+use Rattle.tables.proofs.Tests.{tests}
+use Rattle.input.specs.Refusals.{root_refused, first, or_else, given, nothing}
+use Rattle.tables.proofs.root_refused.Goals as goal
+
+pub returns-then-identifiers-eq0 : goal.returns-then-identifiers-eq0
+unfolding root_refused first or_else given nothing
+returns-then-identifiers-eq0 c = search tests
+
+pub returns-then-identifiers-gt-MOST_IDENTIFIER : goal.returns-then-identifiers-gt-MOST_IDENTIFIER
+unfolding root_refused first or_else given nothing
+returns-then-identifiers-gt-MOST_IDENTIFIER c = search tests
+
+pub returns-then-parent_identifiers-ne0 : goal.returns-then-parent_identifiers-ne0
+unfolding root_refused first or_else given nothing
+returns-then-parent_identifiers-ne0 c = search tests
+
+pub returns-then-shares-ne0 : goal.returns-then-shares-ne0
+unfolding root_refused first or_else given nothing
+returns-then-shares-ne0 c = search tests
+
+pub returns : goal.returns
+unfolding root_refused first or_else given nothing
+returns c = search tests

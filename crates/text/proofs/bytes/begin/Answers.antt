@@ -1,0 +1,7 @@
+-- `text::begin` meets its contract, by that of `empty`.
+-- Assumes nothing.
+use borrow.Author.Rules.{rules}
+use Rattle.text.proofs.bytes.begin.Goals as goal
+
+pub returns : goal.returns
+returns c = rw c.empty-line.ensures

@@ -1,0 +1,21 @@
+-- `with_digit` meets its contract, arm by arm.
+-- Assumes nothing.
+use borrow.Author.Rules.{rules}
+use Rattle.text.specs.Reading.{with_digit}
+use Rattle.text.proofs.digits.with_digit.Goals as goal
+
+pub returns-in-Empty : goal.returns-in-Empty
+unfolding with_digit
+returns-in-Empty c = rw c.enum_told-1.given.1
+
+pub returns-in-Number : goal.returns-in-Number
+unfolding with_digit
+returns-in-Number c = rw c.field-1.given.1 c.number_or_over.ensures
+
+pub returns-in-Over : goal.returns-in-Over
+unfolding with_digit
+returns-in-Over c = rw c.enum_told-in-Over-1.given.1
+
+pub returns-in-Other : goal.returns-in-Other
+unfolding with_digit
+returns-in-Other c = rw c.enum_told-in-Other-1.given.1

@@ -1,0 +1,26 @@
+-- `numbers` meets its contract, arm by arm.
+-- Assumes nothing.
+use mathlib.Core.Path.{sym, ap, ◌∙◌}
+use borrow.Author.Rules.{rules}
+use Rattle.text.specs.declared.Field.{Field}
+use Rattle.text.specs.Reading.{numbers, number_in, from_second}
+use Rattle.text.proofs.shown.numbers.Goals as goal
+
+pub returns-in-Empty : goal.returns-in-Empty
+unfolding numbers number_in
+returns-in-Empty c = rw c.enum_told-1.given.1
+
+pub returns-in-Number : goal.returns-in-Number
+unfolding numbers number_in
+returns-in-Number c =
+    let a = c.args in
+    c.from_second.ensures
+    ∙ sym (ap (λ (f : Field). number_in 1 f (from_second a.line)) c.field-1.given.1)
+
+pub returns-in-Over : goal.returns-in-Over
+unfolding numbers number_in
+returns-in-Over c = rw c.enum_told-in-Over-1.given.1
+
+pub returns-in-Other : goal.returns-in-Other
+unfolding numbers number_in
+returns-in-Other c = rw c.enum_told-in-Other-1.given.1
