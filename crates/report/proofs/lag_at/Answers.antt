@@ -32,7 +32,7 @@ lag_of-requires c = let small = c.requires.fact_4 in record { fact_1 = rw c.coun
 
 pub returns : goal.returns
 returns c tree box by counts =
-    to_z-of_z w64 c.lag_of.result (record { sfits = c.lag_of.type-inv })
+    to_z-of_z w64 c.lag_of.result (record { sfits = c.lag_of.type_inv })
     ∙ c.lag_of.ensures
     ∙ rw (
       c.count-2.ensures,

@@ -32,7 +32,7 @@ loop-r-preserved c =
       search rules,
       simp length-set c.loop-r.invariant.1,
       λ tree box by counts.
-          rw (to_z-of_z w64 c.lag_at.result (record { sfits = c.lag_at.type-inv }), c.lag_at.ensures tree box by counts, add-one)
+          rw (to_z-of_z w64 c.lag_at.result (record { sfits = c.lag_at.type_inv }), c.lag_at.ensures tree box by counts, add-one)
           (over_more (lags_of tree box r) (lag tree box r ∷ []) _ _ r (lags_length tree box r) (omega (arith, c.requires))
           (c.loop-r.invariant.2 tree box by counts)),
     )

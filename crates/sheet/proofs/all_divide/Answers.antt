@@ -33,13 +33,13 @@ loop-rest-init c = refl
 pub returns-then-not-divides : goal.returns-then-not-divides
 returns-then-not-divides c =
     let at = c.loop-rest in
-    let fails = sym c.divides.ensures ∙ not-true _ c.if-not-divides.true in
+    let fails = sym c.divides.ensures ∙ c.if-not-divides.true in
     sym (stops _ _ _ _ c.loop-rest-test.true (rw c.word.ensures at fails)) ∙ at.invariant
 
 pub loop-rest-preserved : goal.loop-rest-preserved
 loop-rest-preserved c =
     let at = c.loop-rest in
-    let passes = sym c.divides.ensures ∙ not-false _ c.if-not-divides.false in
+    let passes = sym c.divides.ensures ∙ c.if-not-divides.false in
     rw c.word-here.ensures
     (goes_on _ _ _ _ c.loop-rest-test.true (rw c.word.ensures at passes) ∙ at.invariant)
 

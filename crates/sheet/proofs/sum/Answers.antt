@@ -15,8 +15,7 @@ nonzero_div-crosswise c = rw c.common-by.ensures (greatest_some _ _ _)
 pub sum_over-requires : goal.sum_over-requires
 sum_over-requires c =
     let args = c.args in
-    let known = c.requires in
-    (rw c.common-by.ensures (times_some (ratio_of args.from) (ratio_of args.part) known.1), known.0)
+    (rw c.common-by.ensures (times_some (ratio_of args.from) (ratio_of args.part) c.requires.1), c.requires.0)
 
 pub returns : goal.returns
 unfolding sum_of

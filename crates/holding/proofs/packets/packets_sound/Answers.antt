@@ -23,7 +23,7 @@ returns-then-not-fits c =
     let s = c.args in
     λ tree same marked.
     let fails = fits_turn s.n s.senders.now s.limit s.words.now at.i at.least at.invariant.1
-    ∙ sym c.fits.ensures ∙ not-true c.fits.result c.if-not-fits.true in
+    ∙ sym c.fits.ensures ∙ c.if-not-fits.true in
     sym (all_fails s.m (fits_at s.n s.senders.now s.limit s.words.now) at.i (omega arith) fails)
     ∙ packets_fit tree s.n s.senders.now same marked s.limit s.words.now s.m
 
@@ -31,7 +31,7 @@ pub overflow_add-least : goal.overflow_add-least
 overflow_add-least c =
     let at = c.loop-i in
     let s = c.args in
-    let holds = sym c.fits.ensures ∙ not-false c.fits.result c.if-not-fits.false in
+    let holds = sym c.fits.ensures ∙ c.if-not-fits.false in
     let bounds = fits_bounds s.n s.senders.now s.limit _ _ _ _ holds in
     omega arith
 
@@ -41,7 +41,7 @@ loop-i-preserved c =
     let at = c.loop-i in
     let s = c.args in
     let holds = fits_turn s.n s.senders.now s.limit s.words.now at.i at.least at.invariant.1
-    ∙ sym c.fits.ensures ∙ not-false c.fits.result c.if-not-fits.false in
+    ∙ sym c.fits.ensures ∙ c.if-not-fits.false in
     (omega arith, rw (add-one, add-one), rw (add-one, at.invariant.2, holds))
 
 pub returns : goal.returns

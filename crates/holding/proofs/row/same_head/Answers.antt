@@ -15,10 +15,10 @@ pub returns-then-size-packet_size : goal.returns-then-size-packet_size
 unfolding same_head
 returns-then-size-packet_size c =
     let s = c.args in
-    rw (eq-eqb s.head s.packet (omega arith), ne_eqb s.size s.packet-size (λ e. omega arith))
+    rw (eq-eqb s.head s.packet (omega arith), ne_eqb s.size s.packet_size (λ e. omega arith))
 
 pub returns : goal.returns
 unfolding same_head
 returns c =
     let s = c.args in
-    rw (eq-eqb s.head s.packet (omega arith), eq-eqb s.size s.packet-size (omega arith))
+    rw (eq-eqb s.head s.packet (omega arith), eq-eqb s.size s.packet_size (omega arith))

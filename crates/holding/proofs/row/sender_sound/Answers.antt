@@ -10,24 +10,24 @@ pub returns-then-not-sender : goal.returns-then-not-sender
 unfolding sender_test
 returns-then-not-sender c =
     let s = c.args in
-    rw (not-true s.sender c.if-not-sender.true)
+    rw (c.if-not-sender.true)
 
 pub returns-then-held-count : goal.returns-then-held-count
 unfolding sender_test
 returns-then-held-count c =
     let s = c.args in
-    rw (not-false s.sender c.if-not-sender.false, ne_eqb s.held s.count (λ e. omega arith))
+    rw (c.if-not-sender.false, ne_eqb s.held s.count (λ e. omega arith))
 
 pub returns-then-not-same_head : goal.returns-then-not-same_head
 unfolding sender_test
 returns-then-not-same_head c =
     let s = c.args in
     rw (
-      not-false s.sender c.if-not-sender.false,
+      c.if-not-sender.false,
       eq-eqb s.held s.count (omega arith),
       ← c.own_class.ensures,
       ← c.same_head.ensures,
-      not-true c.same_head.result c.if-not-same_head.true,
+      c.if-not-same_head.true,
     )
 
 pub returns : goal.returns
@@ -35,9 +35,9 @@ unfolding sender_test
 returns c =
     let s = c.args in
     rw (
-      not-false s.sender c.if-not-sender.false,
+      c.if-not-sender.false,
       eq-eqb s.held s.count (omega arith),
       ← c.own_class.ensures,
       ← c.same_head.ensures,
-      not-false c.same_head.result c.if-not-same_head.false,
+      c.if-not-same_head.false,
     )

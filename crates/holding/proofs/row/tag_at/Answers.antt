@@ -15,10 +15,10 @@ pub returns-then-class-above_class : goal.returns-then-class-above_class
 unfolding tag_at
 returns-then-class-above_class c =
     let s = c.args in
-    rw (ne_eqb s.head 0 (λ e. omega arith), eq-eqb s.class s.above-class (omega arith))
+    rw (ne_eqb s.head 0 (λ e. omega arith), eq-eqb s.class s.above_class (omega arith))
 
 pub returns : goal.returns
 unfolding tag_at
 returns c =
     let s = c.args in
-    rw (ne_eqb s.head 0 (λ e. omega arith), ne_eqb s.class s.above-class (λ e. omega arith))
+    rw (ne_eqb s.head 0 (λ e. omega arith), ne_eqb s.class s.above_class (λ e. omega arith))

@@ -24,7 +24,7 @@ returns-then-not-counts_sound c =
     let at = c.loop-r in
     let s = c.args in
     let test = (counts_tested s.left s.parents.now s.bytes.now s.since.now s.parent_since.now) in
-    let so : test at.r ≡ false = sym (rw c.inside-p.ensures.0 at c.counts_sound.ensures) ∙ not-true c.counts_sound.result c.if-not-counts_sound.true in
+    let so : test at.r ≡ false = sym (rw c.inside-p.ensures.0 at c.counts_sound.ensures) ∙ c.if-not-counts_sound.true in
     sym (all_fails s.n test at.r (omega (arith, c.loop-r-test.true)) so)
 
 pub loop-r-preserved : goal.loop-r-preserved
@@ -33,7 +33,7 @@ loop-r-preserved c =
     let at = c.loop-r in
     let s = c.args in
     let test = (counts_tested s.left s.parents.now s.bytes.now s.since.now s.parent_since.now) in
-    let so : test at.r ≡ true = sym (rw c.inside-p.ensures.0 at c.counts_sound.ensures) ∙ not-false c.counts_sound.result c.if-not-counts_sound.false in
+    let so : test at.r ≡ true = sym (rw c.inside-p.ensures.0 at c.counts_sound.ensures) ∙ c.if-not-counts_sound.false in
     (omega (arith, c.loop-r-test.true), all_more at.r test at.invariant.1 so)
 
 pub returns : goal.returns

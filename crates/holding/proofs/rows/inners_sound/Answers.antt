@@ -21,7 +21,7 @@ returns-then-not-inner_sound c =
     let at = c.loop-r in
     let s = c.args in
     let test = (inners_tested s.senders.now s.held.now s.sums.now s.marks.now s.heads.now s.head_lengths.now s.head_classes.now) in
-    let so : test at.r ≡ false = sym c.inner_sound.ensures ∙ not-true c.inner_sound.result c.if-not-inner_sound.true in
+    let so : test at.r ≡ false = sym c.inner_sound.ensures ∙ c.if-not-inner_sound.true in
     sym (all_fails s.n test at.r (omega (arith, c.loop-r-test.true)) so)
 
 pub loop-r-preserved : goal.loop-r-preserved
@@ -30,7 +30,7 @@ loop-r-preserved c =
     let at = c.loop-r in
     let s = c.args in
     let test = (inners_tested s.senders.now s.held.now s.sums.now s.marks.now s.heads.now s.head_lengths.now s.head_classes.now) in
-    let so : test at.r ≡ true = sym c.inner_sound.ensures ∙ not-false c.inner_sound.result c.if-not-inner_sound.false in
+    let so : test at.r ≡ true = sym c.inner_sound.ensures ∙ c.if-not-inner_sound.false in
     (omega (arith, c.loop-r-test.true), all_more at.r test at.invariant.1 so)
 
 pub returns : goal.returns

@@ -9,52 +9,52 @@ pub returns-then-not-senders_sound : goal.returns-then-not-senders_sound
 returns-then-not-senders_sound c = λ live l. rw (
   rows_so l,
   ← c.senders_sound.ensures,
-  not-true c.senders_sound.result c.if-not-senders_sound.true,
+  c.if-not-senders_sound.true,
 )
 
 pub returns-then-not-inners_sound : goal.returns-then-not-inners_sound
 returns-then-not-inners_sound c = λ live l. rw (
   rows_so l,
   ← c.senders_sound.ensures,
-  not-false c.senders_sound.result c.if-not-senders_sound.false,
+  c.if-not-senders_sound.false,
   ← c.inners_sound.ensures,
-  not-true c.inners_sound.result c.if-not-inners_sound.true,
+  c.if-not-inners_sound.true,
 )
 
 pub returns-then-not-tags_sound : goal.returns-then-not-tags_sound
 returns-then-not-tags_sound c = λ live l. rw (
   rows_so l,
   ← c.senders_sound.ensures,
-  not-false c.senders_sound.result c.if-not-senders_sound.false,
+  c.if-not-senders_sound.false,
   ← c.inners_sound.ensures,
-  not-false c.inners_sound.result c.if-not-inners_sound.false,
+  c.if-not-inners_sound.false,
   ← c.tags_sound.ensures,
-  not-true c.tags_sound.result c.if-not-tags_sound.true,
+  c.if-not-tags_sound.true,
 )
 
 pub returns-then-not-sizes_sound : goal.returns-then-not-sizes_sound
 returns-then-not-sizes_sound c = λ live l. rw (
   rows_so l,
   ← c.senders_sound.ensures,
-  not-false c.senders_sound.result c.if-not-senders_sound.false,
+  c.if-not-senders_sound.false,
   ← c.inners_sound.ensures,
-  not-false c.inners_sound.result c.if-not-inners_sound.false,
+  c.if-not-inners_sound.false,
   ← c.tags_sound.ensures,
-  not-false c.tags_sound.result c.if-not-tags_sound.false,
+  c.if-not-tags_sound.false,
   ← c.sizes_sound.ensures,
-  not-true c.sizes_sound.result c.if-not-sizes_sound.true,
+  c.if-not-sizes_sound.true,
 )
 
 pub returns : goal.returns
 returns c = λ live l. rw (
   rows_so l,
   ← c.senders_sound.ensures,
-  not-false c.senders_sound.result c.if-not-senders_sound.false,
+  c.if-not-senders_sound.false,
   ← c.inners_sound.ensures,
-  not-false c.inners_sound.result c.if-not-inners_sound.false,
+  c.if-not-inners_sound.false,
   ← c.tags_sound.ensures,
-  not-false c.tags_sound.result c.if-not-tags_sound.false,
+  c.if-not-tags_sound.false,
   ← c.sizes_sound.ensures,
-  not-false c.sizes_sound.result c.if-not-sizes_sound.false,
+  c.if-not-sizes_sound.false,
   ← c.counts_sound.ensures,
 )

@@ -21,7 +21,7 @@ returns-then-not-sender_sound c =
     let at = c.loop-r in
     let s = c.args in
     let test = (senders_tested s.senders.now s.held.now s.counts.now s.virtuals.now s.heads.now s.head_lengths.now s.head_classes.now s.firsts.now s.sizes.now) in
-    let so : test at.r ≡ false = sym c.sender_sound.ensures ∙ not-true c.sender_sound.result c.if-not-sender_sound.true in
+    let so : test at.r ≡ false = sym c.sender_sound.ensures ∙ c.if-not-sender_sound.true in
     sym (all_fails s.n test at.r (omega (arith, c.loop-r-test.true)) so)
 
 pub loop-r-preserved : goal.loop-r-preserved
@@ -30,7 +30,7 @@ loop-r-preserved c =
     let at = c.loop-r in
     let s = c.args in
     let test = (senders_tested s.senders.now s.held.now s.counts.now s.virtuals.now s.heads.now s.head_lengths.now s.head_classes.now s.firsts.now s.sizes.now) in
-    let so : test at.r ≡ true = sym c.sender_sound.ensures ∙ not-false c.sender_sound.result c.if-not-sender_sound.false in
+    let so : test at.r ≡ true = sym c.sender_sound.ensures ∙ c.if-not-sender_sound.false in
     (omega (arith, c.loop-r-test.true), all_more at.r test at.invariant.1 so)
 
 pub returns : goal.returns

@@ -24,7 +24,7 @@ returns-then-not-sizes_sound c =
     let at = c.loop-r in
     let s = c.args in
     let test = (sizes_tested s.left s.parents.now s.starts.now s.finishes.now s.virtuals.now s.heads.now s.head_classes.now) in
-    let so : test at.r ≡ false = sym (rw c.inside-p.ensures.0 at c.sizes_sound.ensures) ∙ not-true c.sizes_sound.result c.if-not-sizes_sound.true in
+    let so : test at.r ≡ false = sym (rw c.inside-p.ensures.0 at c.sizes_sound.ensures) ∙ c.if-not-sizes_sound.true in
     sym (all_fails s.n test at.r (omega (arith, c.loop-r-test.true)) so)
 
 pub loop-r-preserved : goal.loop-r-preserved
@@ -33,7 +33,7 @@ loop-r-preserved c =
     let at = c.loop-r in
     let s = c.args in
     let test = (sizes_tested s.left s.parents.now s.starts.now s.finishes.now s.virtuals.now s.heads.now s.head_classes.now) in
-    let so : test at.r ≡ true = sym (rw c.inside-p.ensures.0 at c.sizes_sound.ensures) ∙ not-false c.sizes_sound.result c.if-not-sizes_sound.false in
+    let so : test at.r ≡ true = sym (rw c.inside-p.ensures.0 at c.sizes_sound.ensures) ∙ c.if-not-sizes_sound.false in
     (omega (arith, c.loop-r-test.true), all_more at.r test at.invariant.1 so)
 
 pub returns : goal.returns

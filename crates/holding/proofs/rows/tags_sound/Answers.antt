@@ -21,7 +21,7 @@ returns-then-not-tags_sound c =
     let at = c.loop-r in
     let s = c.args in
     let test = (tags_tested s.shares.now s.starts.now s.finishes.now s.heads.now s.head_lengths.now) in
-    let so : test at.r ≡ false = sym c.tags_sound.ensures ∙ not-true c.tags_sound.result c.if-not-tags_sound.true in
+    let so : test at.r ≡ false = sym c.tags_sound.ensures ∙ c.if-not-tags_sound.true in
     sym (all_fails s.n test at.r (omega (arith, c.loop-r-test.true)) so)
 
 pub loop-r-preserved : goal.loop-r-preserved
@@ -30,7 +30,7 @@ loop-r-preserved c =
     let at = c.loop-r in
     let s = c.args in
     let test = (tags_tested s.shares.now s.starts.now s.finishes.now s.heads.now s.head_lengths.now) in
-    let so : test at.r ≡ true = sym c.tags_sound.ensures ∙ not-false c.tags_sound.result c.if-not-tags_sound.false in
+    let so : test at.r ≡ true = sym c.tags_sound.ensures ∙ c.if-not-tags_sound.false in
     (omega (arith, c.loop-r-test.true), all_more at.r test at.invariant.1 so)
 
 pub returns : goal.returns

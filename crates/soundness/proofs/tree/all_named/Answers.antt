@@ -26,18 +26,18 @@ returns-then-not-is_new c tree e1 e2 =
     let ids = c.args.identifiers.now in
     let n = c.args.n in
     let r = c.loop-r.r in
-    let this = sym (newly_test ids c.loop-r.table r c.loop-r.invariant.3) ∙ sym c.is_new.ensures ∙ not-true c.is_new.result c.if-not-is_new.true in
+    let this = sym (newly_test ids c.loop-r.table r c.loop-r.invariant.3) ∙ sym c.is_new.ensures ∙ c.if-not-is_new.true in
     sym (all_same n (named tree) (newly ids) (λ q inside. named_newly tree ids n q e2 inside) ∙ all_fails n (newly ids) r (omega arith) this)
 
 pub meet-requires : goal.meet-requires
-meet-requires c = let x = get_or c.args.identifiers.now c.loop-r.r 0 in let new = sym c.is_new.ensures ∙ not-false c.is_new.result c.if-not-is_new.false in let later = both_right (ltb 0 x) (leb x most_identifier && not (met c.loop-r.table x)) new in record { x_le_most_identifier = leb-true x most_identifier (both_left (leb x most_identifier) (not (met c.loop-r.table x)) later); table_len = c.loop-r.invariant.1; x_value = not-true (met c.loop-r.table x) (both_right (leb x most_identifier) (not (met c.loop-r.table x)) later) }
+meet-requires c = let x = get_or c.args.identifiers.now c.loop-r.r 0 in let new = sym c.is_new.ensures ∙ c.if-not-is_new.false in let later = both_right (ltb 0 x) (leb x most_identifier && not (met c.loop-r.table x)) new in record { x_le_most_identifier = leb-true x most_identifier (both_left (leb x most_identifier) (not (met c.loop-r.table x)) later); table_len = c.loop-r.invariant.1; x_value = not-true (met c.loop-r.table x) (both_right (leb x most_identifier) (not (met c.loop-r.table x)) later) }
 
 pub loop-r-preserved : goal.loop-r-preserved
 loop-r-preserved c =
     let ids = c.args.identifiers.now in
     let r = c.loop-r.r in
     let new = c.is_new in
-    let this = sym (newly_test ids c.loop-r.table r c.loop-r.invariant.3) ∙ sym new.ensures ∙ not-false new.result c.if-not-is_new.false in (
+    let this = sym (newly_test ids c.loop-r.table r c.loop-r.invariant.3) ∙ sym new.ensures ∙ c.if-not-is_new.false in (
       omega arith,
       c.meet.ensures.table_len_2,
       rw add-one (all_next r (newly ids) c.loop-r.invariant.2 this),

@@ -20,7 +20,7 @@ loop-r-init c = (omega arith, omega arith, λ tree e1 e2 e3 e4. refl)
 pub returns-then-not-class_sound : goal.returns-then-not-class_sound
 returns-then-not-class_sound c tree e1 e2 e3 e4 =
     let r = c.loop-r.r in
-    let this = sym (c.class_sound.ensures tree e1 e2 e3 e4) ∙ not-true c.class_sound.result c.if-not-class_sound.true in
+    let this = sym (c.class_sound.ensures tree e1 e2 e3 e4) ∙ c.if-not-class_sound.true in
     sym (all_fails c.args.n (λ q. eqb q 0 || class_sound tree q) r (omega arith) (rw (ne_eqb r 0 (omega arith)) this))
 
 pub loop-r-preserved : goal.loop-r-preserved
@@ -29,7 +29,7 @@ loop-r-preserved c =
       omega arith,
       omega arith,
       λ tree e1 e2 e3 e4.
-          let this = sym (c.class_sound.ensures tree e1 e2 e3 e4) ∙ not-false c.class_sound.result c.if-not-class_sound.false in
+          let this = sym (c.class_sound.ensures tree e1 e2 e3 e4) ∙ c.if-not-class_sound.false in
           rw add-one (all_next r (λ q. eqb q 0 || class_sound tree q) (c.loop-r.invariant.2 tree e1 e2 e3 e4) (rw (ne_eqb r 0 (omega arith)) this)),
     )
 

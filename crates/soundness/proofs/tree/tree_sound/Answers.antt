@@ -19,7 +19,7 @@ returns-then-not-root_sound c =
     let a = c.args in
     let tree = tree_with a.n (take a.n a.identifiers.now) a.parents.now a.depths.now a.shares.now in
     let one = c.root_sound in
-    sym (root_fails tree (sym (one.ensures tree refl refl refl) ∙ not-true one.result c.if-not-root_sound.true))
+    sym (root_fails tree (sym (one.ensures tree refl refl refl) ∙ c.if-not-root_sound.true))
 
 pub returns-then-not-all_named : goal.returns-then-not-all_named
 returns-then-not-all_named c =
@@ -27,8 +27,8 @@ returns-then-not-all_named c =
     let tree = tree_with a.n (take a.n a.identifiers.now) a.parents.now a.depths.now a.shares.now in
     let one = c.root_sound in
     let two = c.all_named in
-    sym (names_fail tree (sym (one.ensures tree refl refl refl) ∙ not-false one.result c.if-not-root_sound.false)
-    (sym (two.ensures tree refl refl) ∙ not-true two.result c.if-not-all_named.true))
+    sym (names_fail tree (sym (one.ensures tree refl refl refl) ∙ c.if-not-root_sound.false)
+    (sym (two.ensures tree refl refl) ∙ c.if-not-all_named.true))
 
 pub returns-then-not-classes_sound : goal.returns-then-not-classes_sound
 returns-then-not-classes_sound c =
@@ -37,13 +37,13 @@ returns-then-not-classes_sound c =
     let one = c.root_sound in
     let two = c.all_named in
     let three = c.classes_sound in
-    sym (classes_fail tree (sym (one.ensures tree refl refl refl) ∙ not-false one.result c.if-not-root_sound.false)
-    (sym (two.ensures tree refl refl) ∙ not-false two.result c.if-not-all_named.false)
-    (sym (three.ensures tree refl refl refl refl) ∙ not-true three.result c.if-not-classes_sound.true))
+    sym (classes_fail tree (sym (one.ensures tree refl refl refl) ∙ c.if-not-root_sound.false)
+    (sym (two.ensures tree refl refl) ∙ c.if-not-all_named.false)
+    (sym (three.ensures tree refl refl refl refl) ∙ c.if-not-classes_sound.true))
 
 pub children_sums-requires : goal.children_sums-requires
-children_sums-requires c = let a = c.args in let tree = tree_with a.n (take a.n a.identifiers.now) a.parents.now a.depths.now a.shares.now in let one = c.root_sound in let three = c.classes_sound in let inside = parents_inside tree (sym (one.ensures tree refl refl refl) ∙ not-false one.result c.if-not-root_sound.false)
-    (sym (three.ensures tree refl refl refl refl) ∙ not-false three.result c.if-not-classes_sound.false) in record { n_le_most_rows = search rules; inside = λ r below. let this = inside r below in omega arith }
+children_sums-requires c = let a = c.args in let tree = tree_with a.n (take a.n a.identifiers.now) a.parents.now a.depths.now a.shares.now in let one = c.root_sound in let three = c.classes_sound in let inside = parents_inside tree (sym (one.ensures tree refl refl refl) ∙ c.if-not-root_sound.false)
+    (sym (three.ensures tree refl refl refl refl) ∙ c.if-not-classes_sound.false) in record { n_le_most_rows = search rules; inside = λ r below. let this = inside r below in omega arith }
 
 pub returns : goal.returns
 returns c =
@@ -53,9 +53,9 @@ returns c =
     let two = c.all_named in
     let three = c.classes_sound in
     let four = c.children_sums in
-    let decide = sums_decide tree (sym (one.ensures tree refl refl refl) ∙ not-false one.result c.if-not-root_sound.false)
-    (sym (two.ensures tree refl refl) ∙ not-false two.result c.if-not-all_named.false)
-    (sym (three.ensures tree refl refl refl refl) ∙ not-false three.result c.if-not-classes_sound.false) in
+    let decide = sums_decide tree (sym (one.ensures tree refl refl refl) ∙ c.if-not-root_sound.false)
+    (sym (two.ensures tree refl refl) ∙ c.if-not-all_named.false)
+    (sym (three.ensures tree refl refl refl refl) ∙ c.if-not-classes_sound.false) in
     c.within_whole.ensures
     ∙ all_same a.n (λ p. leb (get_or four.result p 0) whole) (λ p. leb (children_sum tree a.shares.now p a.n) whole)
     (λ p inside. ap (λ (sum : ℕ). leb sum whole) (four.ensures tree refl p (omega arith)))

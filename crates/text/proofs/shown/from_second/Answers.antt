@@ -6,16 +6,16 @@ use Rattle.text.proofs.shown.from_second.Goals as goal
 
 pub returns-in-Empty : goal.returns-in-Empty
 unfolding from_second number_in
-returns-in-Empty c = rw c.enum_told-1.given.1
+returns-in-Empty c = rw c.in-Empty.is
 
 pub returns-in-Number : goal.returns-in-Number
 unfolding from_second number_in
-returns-in-Number c = rw c.field-1.given.1
+returns-in-Number c = rw c.in-Number.is
 
 pub returns-in-Over : goal.returns-in-Over
 unfolding from_second number_in
-returns-in-Over c = rw c.enum_told-in-Over-1.given.1
+returns-in-Over c = rw c.in-Over.is
 
 pub returns-in-Other : goal.returns-in-Other
 unfolding from_second number_in
-returns-in-Other c = rw c.enum_told-in-Other-1.given.1
+returns-in-Other c = rw c.in-Other.is

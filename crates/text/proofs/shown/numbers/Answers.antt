@@ -8,19 +8,19 @@ use Rattle.text.proofs.shown.numbers.Goals as goal
 
 pub returns-in-Empty : goal.returns-in-Empty
 unfolding numbers number_in
-returns-in-Empty c = rw c.enum_told-1.given.1
+returns-in-Empty c = rw c.in-Empty.is
 
 pub returns-in-Number : goal.returns-in-Number
 unfolding numbers number_in
 returns-in-Number c =
     let a = c.args in
     c.from_second.ensures
-    ∙ sym (ap (λ (f : Field). number_in 1 f (from_second a.line)) c.field-1.given.1)
+    ∙ sym (ap (λ (f : Field). number_in 1 f (from_second a.line)) c.in-Number.is)
 
 pub returns-in-Over : goal.returns-in-Over
 unfolding numbers number_in
-returns-in-Over c = rw c.enum_told-in-Over-1.given.1
+returns-in-Over c = rw c.in-Over.is
 
 pub returns-in-Other : goal.returns-in-Other
 unfolding numbers number_in
-returns-in-Other c = rw c.enum_told-in-Other-1.given.1
+returns-in-Other c = rw c.in-Other.is
