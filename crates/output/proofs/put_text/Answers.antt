@@ -16,7 +16,7 @@ loop-i-preserved c =
     let text = c.args.text.now in (
       search rules,
       text_turn text c.loop-i.i (page_of c.loop-i.page c.loop-i.used) _ _ (omega arith) c.put_byte-used.ensures c.loop-i.invariant.1,
-      c.put_byte-used.auto.page.0 ∙ c.loop-i.invariant.2,
+      c.put_byte-used.auto.page ∙ c.loop-i.invariant.2,
     )
 
 pub returns : goal.returns

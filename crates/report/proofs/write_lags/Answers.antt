@@ -23,7 +23,7 @@ unfolding over lags_of
 loop-r-init c = (search rules, refl, λ tree box by counts. refl)
 
 pub lag_at-requires : goal.lag_at-requires
-lag_at-requires c = let given = c.requires.1.1 in let past = given.1.1.1 in record { fact_1 = search rules; fact_2 = given.0; fact_3 = given.1.0; fact_4 = given.1.1.0; fact_5 = record { own_grew = λ i below. past.own_grew i (omega arith); above_grew = λ i below. past.above_grew i (omega arith) } }
+lag_at-requires c = let past = c.requires.at_most_4 in record { fact_1 = search rules; fact_2 = c.requires.at_most_1; fact_3 = c.requires.at_most_2; fact_4 = c.requires.at_most_3; fact_5 = record { own_grew = λ i below. past.own_grew i (omega arith); above_grew = λ i below. past.above_grew i (omega arith) } }
 
 pub loop-r-preserved : goal.loop-r-preserved
 unfolding lags_of

@@ -10,16 +10,16 @@ use Rattle.sheet.proofs.Figures.{denominator_some, ticks_outgrown, ticks_added}
 use Rattle.sheet.proofs.plus_ticks.Goals as goal
 
 pub returns-then-not-from : goal.returns-then-not-from
-returns-then-not-from c = c.outgrown.ensures ∙ sym (ticks_outgrown _ _ (c.if-not-from.true))
+returns-then-not-from c = c.outgrown.ensures ∙ sym (ticks_outgrown _ _ (not-true _ c.if-not-from.true))
 
 pub sum-requires : goal.sum-requires
 sum-requires c =
     (
-      c.requires (c.if-not-from.false),
+      c.requires (not-false _ c.if-not-from.false),
       rw c.lowest.ensures (denominator_some (fraction _ ticks) (omega arith)),
     )
 
 pub returns : goal.returns
 returns c =
     let args = c.args in
-    rw (ticks_added args.ticks args.from (c.if-not-from.false)) (rw c.lowest.ensures c c.sum.ensures)
+    rw (ticks_added args.ticks args.from (not-false args.from.fits c.if-not-from.false)) (rw c.lowest.ensures at c.sum.ensures)

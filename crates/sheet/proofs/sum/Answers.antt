@@ -19,4 +19,4 @@ sum_over-requires c =
 
 pub returns : goal.returns
 unfolding sum_of
-returns c = rw c.common-by.ensures at c.Sum-over.ensures
+returns c = rw c.common-by.ensures at c.sum_over.ensures

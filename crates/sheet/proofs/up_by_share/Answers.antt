@@ -13,19 +13,18 @@ use Rattle.sheet.proofs.Figures.{denominator_some, stays_outgrown, over_nothing,
 use Rattle.sheet.proofs.up_by_share.Goals as goal
 
 pub returns-then-not-from : goal.returns-then-not-from
-returns-then-not-from c = c.outgrown.ensures ∙ sym (stays_outgrown _ _ _ (c.if-not-from.true))
+returns-then-not-from c = c.outgrown.ensures ∙ sym (stays_outgrown _ _ _ (not-true _ c.if-not-from.true))
 
 pub returns-then-share-eq0 : goal.returns-then-share-eq0
-returns-then-share-eq0 c = c.outgrown-then-share-eq0.ensures ∙ sym (over_nothing _ _ _ (c.if-not-from.false) c.if-share-eq0.true)
+returns-then-share-eq0 c = c.outgrown-then-share-eq0.ensures ∙ sym (over_nothing _ _ _ (not-false _ c.if-not-from.false) c.if-share-eq0.true)
 
 pub returns-then-not-product_fits : goal.returns-then-not-product_fits
 returns-then-not-product_fits c =
     let args = c.args in
     let large : limit ≤ packets_a_step * args.largest * args.from.denominator =
     failed _ _ _ c.product_fits.ensures (c.if-not-product_fits.true) in
-    c.outgrown-then-not-product_fits.ensures ∙ (λ (large : limit
-    ≤ c.args.from.numerator
-    + packets_a_step * c.args.largest * c.args.from.denominator). sym (too_many _ _ _ (c.if-not-from.false) c.if-share-eq0.false large)) (omega arith)
+    c.outgrown-then-not-product_fits.ensures
+    ∙ sym (too_many _ _ _ (not-false _ c.if-not-from.false) c.if-share-eq0.false (omega arith))
 
 pub overflow_mul-more : goal.overflow_mul-more
 overflow_mul-more c =
@@ -34,9 +33,7 @@ overflow_mul-more c =
 pub returns-then-not-sum_fits : goal.returns-then-not-sum_fits
 returns-then-not-sum_fits c =
     c.outgrown-then-not-sum_fits.ensures
-    ∙ (λ (large : limit
-    ≤ c.args.from.numerator
-    + packets_a_step * c.args.largest * c.args.from.denominator). sym (too_many _ _ _ (c.if-not-from.false) c.if-share-eq0.false large)) (failed _ _ _ c.sum_fits.ensures (c.if-not-sum_fits.true))
+    ∙ sym (too_many _ _ _ (not-false _ c.if-not-from.false) c.if-share-eq0.false (failed _ _ _ c.sum_fits.ensures (c.if-not-sum_fits.true)))
 
 pub overflow_add-from : goal.overflow_add-from
 overflow_add-from c =
@@ -45,7 +42,7 @@ overflow_add-from c =
 pub product-requires : goal.product-requires
 product-requires c =
     (
-      c.requires (c.if-not-from.false),
+      c.requires (not-false _ c.if-not-from.false),
       rw c.lowest-part.ensures (denominator_some (whole_over _) (omega arith)),
     )
 
@@ -53,5 +50,5 @@ pub returns : goal.returns
 unfolding step_up
 returns c =
     let args = c.args in
-    rw (steps_up args.largest args.share args.from (c.if-not-from.false) c.if-share-eq0.false)
-    (rw c.lowest-part.ensures c c.product.ensures)
+    rw (steps_up args.largest args.share args.from (not-false args.from.fits c.if-not-from.false) c.if-share-eq0.false)
+    (rw c.lowest-part.ensures at c.product.ensures)

@@ -28,19 +28,19 @@ pub returns-then-not-allowed : goal.returns-then-not-allowed
 unfolding class_refused doubled first or_else given nothing
 returns-then-not-allowed c =
     let other : not (allowed c.args.share) ≡ true =
-    rw (← c.allowed.ensures) c.if-not-allowed.true
+    rw (← c.allowed.ensures, c.if-not-allowed.true)
     in search (tests, other)
 
 pub returns-then-depth-gt-MOST_DEPTH : goal.returns-then-depth-gt-MOST_DEPTH
 unfolding class_refused doubled first or_else given nothing
 returns-then-depth-gt-MOST_DEPTH c =
     let fine : not (allowed c.args.share) ≡ false =
-    rw (← c.allowed.ensures) c.if-not-allowed.false
+    rw (← c.allowed.ensures, c.if-not-allowed.false)
     in search (tests, fine)
 
 pub returns : goal.returns
 unfolding class_refused doubled first or_else given nothing
 returns c =
     let fine : not (allowed c.args.share) ≡ false =
-    rw (← c.allowed.ensures) c.if-not-allowed.false
+    rw (← c.allowed.ensures, c.if-not-allowed.false)
     in search (tests, fine)

@@ -11,21 +11,21 @@ use Rattle.tables.proofs.read_sized.Goals as goal
 
 pub returns-then-refusal-ne0 : goal.returns-then-refusal-ne0
 returns-then-refusal-ne0 c =
-    rw (← (let it : c.or_else-refusal.result ≡ table_refused (table (start c)) = let rows = (all-rows c).read_rows in
-    let t = table (start c) in
+    rw (← (let it : c.or_else-refusal.result ≡ table_refused ((let it : Table = table_of c.args.identifiers.now c.args.parent_identifiers.now c.args.shares.now in it)) = let rows = c.read_rows-rows in
+    let t = (let it : Table = table_of c.args.identifiers.now c.args.parent_identifiers.now c.args.shares.now in it) in
     table_refusal t rows.result rows.ensures c.shares_refused-shares_refusal.result c.or_else-refusal.result
     (c.shares_refused-shares_refusal.ensures t refl (parents_read t rows.result rows.ensures)
     (shares_read t rows.result rows.ensures))
-    c.or_else-refusal.ensures in it)) (c.refusing.ensures ∙ sym (answer_refuses c.or_else-refusal.result (tree_of (table (c))) c.if-refusal-ne0.true))
+    c.or_else-refusal.ensures in it)) (c.refusing.ensures ∙ sym (answer_refuses c.or_else-refusal.result (tree_of ((let it : Table = table_of c.args.identifiers.now c.args.parent_identifiers.now c.args.shares.now in it))) c.if-refusal-ne0.true))
 
 pub returns : goal.returns
 returns c =
-    let t = table (c) in
-    let rows = (c).read_rows in
+    let t = (let it : Table = table_of c.args.identifiers.now c.args.parent_identifiers.now c.args.shares.now in it) in
+    let rows = c.read_rows-rows in
     let senders = c.senders_of-senders.ensures (tree_of t) (parents_read t rows.result rows.ensures)
     (tree_rows t) in
-    rw (← (let it : c.or_else-refusal.result ≡ table_refused (table (start c)) = let rows = (all-rows c).read_rows in
-    let t = table (start c) in
+    rw (← (let it : c.or_else-refusal.result ≡ table_refused ((let it : Table = table_of c.args.identifiers.now c.args.parent_identifiers.now c.args.shares.now in it)) = let rows = c.read_rows-rows in
+    let t = (let it : Table = table_of c.args.identifiers.now c.args.parent_identifiers.now c.args.shares.now in it) in
     table_refusal t rows.result rows.ensures c.shares_refused-shares_refusal.result c.or_else-refusal.result
     (c.shares_refused-shares_refusal.ensures t refl (parents_read t rows.result rows.ensures)
     (shares_read t rows.result rows.ensures))

@@ -1,0 +1,25 @@
+-- `choosing::new_head` meets its contract: one more charge is within the tags' leeway, and the stores are those of the definition.
+-- Assumes nothing.
+use borrow.Author.Rules.{rules}
+use Rattle.rules.specs.Steps.{new_head, charged, with_head}
+use Rattle.choosing.proofs.Ticks.{charged_fits}
+use Rattle.looking.proofs.Parts.{next_start_part}
+use Rattle.choosing.proofs.new_head.Goals as goal
+
+pub overflow_add-finishes : goal.overflow_add-finishes
+overflow_add-finishes c =
+    let known = c.requires.1.1 in
+    record { fits = rw (c.next_start-s.ensures, c.charge.ensures) (charged_fits known.1 _ _ _ _ _ known.0) }
+
+pub returns : goal.returns
+unfolding new_head charged with_head
+returns c =
+    λ rows ids depths.
+    rw (
+      c.set_head.ensures.heads_after,
+      c.set_head.ensures.head_lengths_after,
+      c.set_head.ensures.head_classes_after,
+      next_start_part,
+      c.charge.ensures,
+      c.next_start-s.ensures,
+    )
