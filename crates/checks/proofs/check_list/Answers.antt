@@ -1,4 +1,4 @@
--- `checks::check_list` meets its contract: no event passed is refused, and the rows and the counts are those of the (let it : Events = events_of passed.args.classes.now passed.args.lengths.now in it).
+-- `checks::check_list` meets its contract: no event passed is refused, and the rows and the counts are those of the events passed.
 -- Assumes nothing.
 use Prim.Native.Nat.{◌-◌, ◌≤◌}
 use mathlib.Core.Path.{◌≡◌, refl, sym, ◌∙◌, subst}
@@ -17,29 +17,31 @@ use Rattle.checks.proofs.Meeting.{counted_plain, Passed, passed_none, passed_sto
 use Rattle.checks.proofs.check_list.Goals as goal
 
 -- what the call finds is what the event at the loop's place meets
-met : (d : tie.After-check-event invariant-loop decreases-loop) (tree : Tree) → Known tree d.args.identifiers.now d.args.senders.now
-    → Meets tree d.loop.i (length_word ((let it : Events = events_of d.args.classes.now d.args.lengths.now in it)) d.loop.i) (event ((let it : Events = events_of d.args.classes.now d.args.lengths.now in it)) d.loop.i)
-    (leb d.loop.arrivals d.loop.finishes) d.check-event.result
+met : (d : tie.After-check-event invariant-loop decreases-loop) (tree : Tree) → Known tree (start d).args.identifiers.now (start d).args.senders.now
+    → Meets tree (loop-at d).loop.i (length_word (events (start d)) (loop-at d).loop.i) (event (events (start d)) (loop-at d).loop.i)
+    (leb (loop-at d).loop.arrivals (loop-at d).loop.finishes) d.check-event.result
 unfolding event
 met d tree known =
-    let at = d.loop in
+    let at = (loop-at d).loop in
     subst
-    (λ (e : Event). Meets tree at.i (length_word ((let it : Events = events_of d.args.classes.now d.args.lengths.now in it)) at.i) e (leb at.arrivals at.finishes) d.check-event.result)
-    d.decode.ensures (d.check-event.ensures tree known)
+    (λ (e : Event). Meets tree at.i (length_word (events (start d)) at.i) e (leb at.arrivals at.finishes) d.check-event.result)
+    d.before.before.decode.ensures (d.check-event.ensures tree known)
 
 pub loop-i-init : goal.loop-i-init
 unfolding no_rows
 loop-i-init c =
-    (omega arith, omega arith, omega arith, λ tree known. passed_none tree ((let it : Events = events_of c.args.classes.now c.args.lengths.now in it)) no_rows refl)
+    let events : Events = events_of c.args.classes.now c.args.lengths.now in
+    (omega arith, omega arith, omega arith, λ tree known. passed_none tree events no_rows refl)
 
 pub returns-then-refusal-ne0 : goal.returns-then-refusal-ne0
 returns-then-refusal-ne0 c tree known =
+    let events : Events = events_of c.args.classes.now c.args.lengths.now in
     let a = c.args in
     let at = c.loop-i in
     let some = c.if-refusal-ne0.true in
     record {
       refusal =
-          passed_stop tree a.identifiers.now a.senders.now known ((let it : Events = events_of c.args.classes.now c.args.lengths.now in it)) at.i at.rows at.arrivals
+          passed_stop tree a.identifiers.now a.senders.now known events at.i at.rows at.arrivals
           at.finishes (at.inv.3 tree known) c.check_event-check.result (met c tree known) (length a.classes.now) (omega arith)
           some;
       rows = λ none. absurd (some none);
@@ -54,6 +56,7 @@ overflow_add-finishes c = omega (arith, c.one_finish-finishes.ensures.1)
 pub loop-i-preserved : goal.loop-i-preserved
 unfolding event
 loop-i-preserved c =
+    let events : Events = events_of c.args.classes.now c.args.lengths.now in
     let a = c.args in
     let at = c.loop-i in (
       omega arith,
@@ -61,16 +64,17 @@ loop-i-preserved c =
       omega (arith, c.one_finish-finishes.ensures.1),
       λ tree known.
           rw (add-one, c.one_arrival-arrivals.ensures.0, c.one_finish-finishes.ensures.0, c.decode-event.ensures)
-          (passed_more tree a.identifiers.now a.senders.now known ((let it : Events = events_of c.args.classes.now c.args.lengths.now in it)) at.i at.rows at.arrivals
+          (passed_more tree a.identifiers.now a.senders.now known events at.i at.rows at.arrivals
           at.finishes (at.inv.3 tree known) c.check_event-check.result (met c tree known) c.if-refusal-ne0.false),
     )
 
 pub returns : goal.returns
 returns c tree known =
+    let events : Events = events_of c.args.classes.now c.args.lengths.now in
     let at = c.loop-i in
     let end : at.i ≡ length c.args.classes.now = omega arith in
     let passed = at.invariant.3 tree known in
     record {
-      refusal = rw (← end) (c.none.ensures ∙ sym (counted_plain tree ((let it : Events = events_of c.args.classes.now c.args.lengths.now in it)) at.i passed.none));
+      refusal = rw (← end) (c.none.ensures ∙ sym (counted_plain tree events at.i passed.none));
       rows = λ none. rw (← end) passed.placed;
     }

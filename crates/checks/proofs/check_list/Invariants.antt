@@ -1,4 +1,4 @@
--- `checks::check_list` meets its contract: no event passed is refused, and the rows and the counts are those of the (let it : Events = events_of passed.args.classes.now passed.args.lengths.now in it).
+-- `checks::check_list` meets its contract: no event passed is refused, and the rows and the counts are those of the events passed.
 -- Assumes nothing.
 use Prim.Native.Nat.{◌-◌, ◌≤◌}
 use mathlib.Core.Path.{◌≡◌, refl, sym, ◌∙◌, subst}

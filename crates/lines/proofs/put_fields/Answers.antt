@@ -23,7 +23,7 @@ loop-j-preserved c =
       search rules,
       rw add-one (then _ _ _ c.loop-j.invariant.1 (rw c.report_word.ensures at c.put_field-used.ensures)
           ∙ ap (with_text _) (fields_turn _ _ _)),
-      c.put_field-used.auto.0 ∙ c.loop-j.invariant.2,
+      c.put_field-used.auto.page ∙ c.loop-j.invariant.2,
     )
 
 pub returns : goal.returns

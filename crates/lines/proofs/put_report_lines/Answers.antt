@@ -25,7 +25,7 @@ loop-r-preserved c =
     let same : to_z w64 (of_z w64 lag) ≡ lag = to_z-of_z w64 lag (record { sfits = c.lag.type_inv }) in (
       search rules,
       rw (add-one, ← c.lag.ensures) (then _ _ _ c.loop-r.invariant.1 (rw same at c.put_report_line-used.ensures)),
-      c.put_report_line-used.auto.0 ∙ c.loop-r.invariant.2,
+      c.put_report_line-used.auto.page ∙ c.loop-r.invariant.2,
     )
 
 pub returns : goal.returns

@@ -22,7 +22,7 @@ loop-r-preserved c =
     (
       search rules,
       rw add-one (then _ _ _ c.loop-r.invariant.1 c.put_row-used.ensures),
-      c.put_row-used.auto.0 ∙ c.loop-r.invariant.2,
+      c.put_row-used.auto.page ∙ c.loop-r.invariant.2,
     )
 
 pub returns : goal.returns

@@ -17,7 +17,7 @@ loop-i-preserved c =
     let words = c.args.words.now in (
       search rules,
       words_turn words c.loop-i.i (page_of c.loop-i.page c.loop-i.used) _ _ (omega arith) c.put_word_line-used.ensures c.loop-i.invariant.1,
-      c.put_word_line-used.auto.0 ∙ c.loop-i.invariant.2,
+      c.put_word_line-used.auto.page ∙ c.loop-i.invariant.2,
     )
 
 pub returns : goal.returns

@@ -24,7 +24,7 @@ unfolding report_of row_report
 loop-r-preserved c =
     let r = c.loop-r.r in (
       search rules,
-      c.report_row.auto.report.1.1.1.1.1.0 ∙ c.loop-r.invariant.1,
+      c.report_row.auto.report ∙ c.loop-r.invariant.1,
       λ tree box sending shown.
           rw add-one
           (row_reported tree box r _ _ _ _ _ _ c.loop-r.report _ (sending r (omega arith)) shown c.report_row.ensures

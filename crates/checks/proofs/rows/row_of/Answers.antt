@@ -10,23 +10,27 @@ use Rattle.checks.proofs.rows.row_of.Goals as goal
 
 pub overflow_cast-row : goal.overflow_cast-row
 overflow_cast-row c =
-    let low = (let it : get_or c.args.rows.now c.on_air.result 0 < length c.args.identifiers.now = all_inside c.args.identifiers.now c.args.rows.now c.requires c.on_air.result in it) in
+    let inside : get_or c.args.rows.now c.on_air.result 0 < length c.args.identifiers.now = all_inside c.args.identifiers.now c.args.rows.now c.requires c.on_air.result in
+    let low = inside in
     let few = c.requires.few in
     search (rules, low, few)
 
 pub offset_bounds-identifiers-row : goal.offset_bounds-identifiers-row
 offset_bounds-identifiers-row c =
-    let low = (let it : get_or c.args.rows.now c.on_air.result 0 < length c.args.identifiers.now = all_inside c.args.identifiers.now c.args.rows.now c.requires c.on_air.result in it) in
+    let inside : get_or c.args.rows.now c.on_air.result 0 < length c.args.identifiers.now = all_inside c.args.identifiers.now c.args.rows.now c.requires c.on_air.result in
+    let low = inside in
     let few = c.requires.few in
     search (rules, low, few)
 
 pub bounds-identifiers-row : goal.bounds-identifiers-row
-bounds-identifiers-row c = (let it : get_or c.args.rows.now c.on_air.result 0 < length c.args.identifiers.now = all_inside c.args.identifiers.now c.args.rows.now c.requires c.on_air.result in it)
+bounds-identifiers-row c =
+    let inside : get_or c.args.rows.now c.on_air.result 0 < length c.args.identifiers.now = all_inside c.args.identifiers.now c.args.rows.now c.requires c.on_air.result in inside
 
 pub returns-then-identifiers-row : goal.returns-then-identifiers-row
 returns-then-identifiers-row c =
+    let inside : get_or c.args.rows.now c.on_air.result 0 < length c.args.identifiers.now = all_inside c.args.identifiers.now c.args.rows.now c.requires c.on_air.result in
     let a = c.args in
-    let low = (let it : get_or c.args.rows.now c.on_air.result 0 < length c.args.identifiers.now = all_inside c.args.identifiers.now c.args.rows.now c.requires c.on_air.result in it) in (
+    let low = inside in (
       λ apart. row_there a.identifiers.now apart a.rows.now c.requires a.class _
           (ap (λ x. get_or a.rows.now x 0) c.on_air.ensures.0) low c.if-identifiers-row.true,
       omega arith,

@@ -37,45 +37,51 @@ returns-then-not-any_magic c =
     c.refusal-then-not-any_magic.ensures
 
 pub returns-then-half-ne-MAJOR_VERSION : goal.returns-then-half-ne-MAJOR_VERSION
-unfolding first or_else given nothing
+unfolding first or_else given nothing header_refused
 returns-then-half-ne-MAJOR_VERSION c =
-    let half = c.half in
-    c.refusal-then-half-ne-MAJOR_VERSION.ensures
-    ∙ sym ((let it : header_refused ((c.args.capture.now)) ((c.args.rate))
+    let capture : List ℕ = c.args.capture.now in
+    let rate : ℕ = c.args.rate in
+    let past_magic : header_refused capture rate
     ≡ first
     (given
-    (not (eqb (half_at c.layout_of-layout.result.big ((c.args.capture.now)) 4) major_version)
-    || not (eqb (half_at c.layout_of-layout.result.big ((c.args.capture.now)) 6) minor_version)) 33 0
-    ∷ given (not (eqb (word_at c.layout_of-layout.result.big ((c.args.capture.now)) 20) raw_ip)) 34 0
+    (not (eqb (half_at c.layout_of-layout.result.big capture 4) major_version)
+    || not (eqb (half_at c.layout_of-layout.result.big capture 6) minor_version)) 33 0
+    ∷ given (not (eqb (word_at c.layout_of-layout.result.big capture 20) raw_ip)) 34 0
     ∷ []) = rw (
-      ne_eqb ((c.args.rate)) 0 c.if-rate-eq0.false,
-      le-ltb (length ((c.args.capture.now))) header_bytes c.if-capture-lt-HEADER_BYTES.false,
+      ne_eqb rate 0 c.if-rate-eq0.false,
+      le-ltb (length capture) header_bytes c.if-capture-lt-HEADER_BYTES.false,
       ← c.any_magic.ensures,
       c.if-not-any_magic.false,
       ← c.layout_of-layout.ensures,
     )
-    refl in it) ∙ rw (← half.ensures, ne_eqb half.result major_version c.if-half-ne-MAJOR_VERSION.true) refl)
+    refl in
+    let half = c.half in
+    c.refusal-then-half-ne-MAJOR_VERSION.ensures
+    ∙ sym (past_magic ∙ rw (← half.ensures, ne_eqb half.result major_version c.if-half-ne-MAJOR_VERSION.true) refl)
 
 pub returns-then-half-ne-MINOR_VERSION : goal.returns-then-half-ne-MINOR_VERSION
-unfolding first or_else given nothing
+unfolding first or_else given nothing header_refused
 returns-then-half-ne-MINOR_VERSION c =
+    let capture : List ℕ = c.args.capture.now in
+    let rate : ℕ = c.args.rate in
+    let past_magic : header_refused capture rate
+    ≡ first
+    (given
+    (not (eqb (half_at c.layout_of-layout.result.big capture 4) major_version)
+    || not (eqb (half_at c.layout_of-layout.result.big capture 6) minor_version)) 33 0
+    ∷ given (not (eqb (word_at c.layout_of-layout.result.big capture 20) raw_ip)) 34 0
+    ∷ []) = rw (
+      ne_eqb rate 0 c.if-rate-eq0.false,
+      le-ltb (length capture) header_bytes c.if-capture-lt-HEADER_BYTES.false,
+      ← c.any_magic.ensures,
+      c.if-not-any_magic.false,
+      ← c.layout_of-layout.ensures,
+    )
+    refl in
     let minor = c.half-2 in
     c.refusal-then-half-ne-MINOR_VERSION.ensures
     ∙ sym
-    ((let it : header_refused ((c.args.capture.now)) ((c.args.rate))
-    ≡ first
-    (given
-    (not (eqb (half_at c.layout_of-layout.result.big ((c.args.capture.now)) 4) major_version)
-    || not (eqb (half_at c.layout_of-layout.result.big ((c.args.capture.now)) 6) minor_version)) 33 0
-    ∷ given (not (eqb (word_at c.layout_of-layout.result.big ((c.args.capture.now)) 20) raw_ip)) 34 0
-    ∷ []) = rw (
-      ne_eqb ((c.args.rate)) 0 c.if-rate-eq0.false,
-      le-ltb (length ((c.args.capture.now))) header_bytes c.if-capture-lt-HEADER_BYTES.false,
-      ← c.any_magic.ensures,
-      c.if-not-any_magic.false,
-      ← c.layout_of-layout.ensures,
-    )
-    refl in it)
+    (past_magic
     ∙ rw (
       ← c.half.ensures,
       eq-eqb c.half.result major_version c.if-half-ne-MAJOR_VERSION.false,
@@ -85,24 +91,26 @@ returns-then-half-ne-MINOR_VERSION c =
     refl)
 
 pub returns-then-word-ne-RAW_IP : goal.returns-then-word-ne-RAW_IP
-unfolding first or_else given nothing
+unfolding first or_else given nothing header_refused
 returns-then-word-ne-RAW_IP c =
-    c.refusal-then-word-ne-RAW_IP.ensures
-    ∙ sym ((let it : header_refused ((c.args.capture.now)) ((c.args.rate))
-    ≡ first (given (not (eqb c.word.result raw_ip)) 34 0 ∷ []) = (let it : header_refused ((c.args.capture.now)) ((c.args.rate))
+    let capture : List ℕ = c.args.capture.now in
+    let rate : ℕ = c.args.rate in
+    let past_magic : header_refused capture rate
     ≡ first
     (given
-    (not (eqb (half_at c.layout_of-layout.result.big ((c.args.capture.now)) 4) major_version)
-    || not (eqb (half_at c.layout_of-layout.result.big ((c.args.capture.now)) 6) minor_version)) 33 0
-    ∷ given (not (eqb (word_at c.layout_of-layout.result.big ((c.args.capture.now)) 20) raw_ip)) 34 0
+    (not (eqb (half_at c.layout_of-layout.result.big capture 4) major_version)
+    || not (eqb (half_at c.layout_of-layout.result.big capture 6) minor_version)) 33 0
+    ∷ given (not (eqb (word_at c.layout_of-layout.result.big capture 20) raw_ip)) 34 0
     ∷ []) = rw (
-      ne_eqb ((c.args.rate)) 0 c.if-rate-eq0.false,
-      le-ltb (length ((c.args.capture.now))) header_bytes c.if-capture-lt-HEADER_BYTES.false,
+      ne_eqb rate 0 c.if-rate-eq0.false,
+      le-ltb (length capture) header_bytes c.if-capture-lt-HEADER_BYTES.false,
       ← c.any_magic.ensures,
       c.if-not-any_magic.false,
       ← c.layout_of-layout.ensures,
     )
-    refl in it)
+    refl in
+    let past_version : header_refused capture rate
+    ≡ first (given (not (eqb c.word.result raw_ip)) 34 0 ∷ []) = past_magic
     ∙ rw (
       ← c.half.ensures,
       eq-eqb c.half.result major_version c.if-half-ne-MAJOR_VERSION.false,
@@ -110,27 +118,31 @@ returns-then-word-ne-RAW_IP c =
       eq-eqb c.half-2.result minor_version c.if-half-ne-MINOR_VERSION.false,
       ← c.word.ensures,
     )
-    refl in it) ∙ rw (ne_eqb c.word.result raw_ip c.if-word-ne-RAW_IP.true) refl)
+    refl in
+    c.refusal-then-word-ne-RAW_IP.ensures
+    ∙ sym (past_version ∙ rw (ne_eqb c.word.result raw_ip c.if-word-ne-RAW_IP.true) refl)
 
 pub returns : goal.returns
-unfolding first or_else given nothing
+unfolding first or_else given nothing header_refused
 returns c =
-    c.none.ensures
-    ∙ sym ((let it : header_refused ((c.args.capture.now)) ((c.args.rate))
-    ≡ first (given (not (eqb c.word.result raw_ip)) 34 0 ∷ []) = (let it : header_refused ((c.args.capture.now)) ((c.args.rate))
+    let capture : List ℕ = c.args.capture.now in
+    let rate : ℕ = c.args.rate in
+    let past_magic : header_refused capture rate
     ≡ first
     (given
-    (not (eqb (half_at c.layout_of-layout.result.big ((c.args.capture.now)) 4) major_version)
-    || not (eqb (half_at c.layout_of-layout.result.big ((c.args.capture.now)) 6) minor_version)) 33 0
-    ∷ given (not (eqb (word_at c.layout_of-layout.result.big ((c.args.capture.now)) 20) raw_ip)) 34 0
+    (not (eqb (half_at c.layout_of-layout.result.big capture 4) major_version)
+    || not (eqb (half_at c.layout_of-layout.result.big capture 6) minor_version)) 33 0
+    ∷ given (not (eqb (word_at c.layout_of-layout.result.big capture 20) raw_ip)) 34 0
     ∷ []) = rw (
-      ne_eqb ((c.args.rate)) 0 c.if-rate-eq0.false,
-      le-ltb (length ((c.args.capture.now))) header_bytes c.if-capture-lt-HEADER_BYTES.false,
+      ne_eqb rate 0 c.if-rate-eq0.false,
+      le-ltb (length capture) header_bytes c.if-capture-lt-HEADER_BYTES.false,
       ← c.any_magic.ensures,
       c.if-not-any_magic.false,
       ← c.layout_of-layout.ensures,
     )
-    refl in it)
+    refl in
+    let past_version : header_refused capture rate
+    ≡ first (given (not (eqb c.word.result raw_ip)) 34 0 ∷ []) = past_magic
     ∙ rw (
       ← c.half.ensures,
       eq-eqb c.half.result major_version c.if-half-ne-MAJOR_VERSION.false,
@@ -138,4 +150,6 @@ returns c =
       eq-eqb c.half-2.result minor_version c.if-half-ne-MINOR_VERSION.false,
       ← c.word.ensures,
     )
-    refl in it) ∙ rw (eq-eqb c.word.result raw_ip c.if-word-ne-RAW_IP.false) refl)
+    refl in
+    c.none.ensures
+    ∙ sym (past_version ∙ rw (eq-eqb c.word.result raw_ip c.if-word-ne-RAW_IP.false) refl)

@@ -15,26 +15,6 @@ use Rattle.records.proofs.reading.read.Goals as goal
 
 -- ── in a turn ──
 
-module _ (t : tie.In-loop invariant-loop decreases-loop) where
-  abbrev start : tie.Start invariant-loop decreases-loop
-  start = t.before.before.before.before.before.before
-
-  abbrev capture : List ℕ
-  capture = start.args.capture.now
-
-  abbrev k : ℕ
-  k = t.before.loop.k
-
-  is_whole : Whole capture k
-  is_whole =
-      let counted = start.pre.0.counted in counted_whole capture start.pre.0.fine k (omega (arith, t.loop-test.taken))
-
-  there : t.before.loop.at + record_bytes + included_at capture t.before.loop.at ≤ length capture
-  there = whole_at capture k t.before.loop.at t.before.loop.inv.1 is_whole
-
-  two : 1 < length (packet_at capture t.before.loop.at)
-  two = two_bytes capture k t.before.loop.at t.before.loop.inv.1 is_whole
-
 pub loop-k-init : goal.loop-k-init
 unfolding offset
 loop-k-init c =
@@ -42,37 +22,54 @@ loop-k-init c =
     (omega arith, refl, refl, refl, refl, read_none a.capture.now a.sorting (arrivals_with a.stamps.now a.classes.now a.lengths.now))
 
 pub read_record-requires : goal.read_record-requires
-read_record-requires c = let p = (start c).requires in let inv = c.loop-k.invariant in let here = there c in record { fact_1 = (p.0.laid, omega arith, two c); fact_2 = (omega (arith, p.1.0, inv.2), omega (arith, p.1.1, inv.3), omega (arith, p.1.2, inv.4)) }
+read_record-requires c =
+    let capture : List ℕ = c.args.capture.now in
+    let k : ℕ = c.loop-k.k in
+    let is_whole :  = λ : Whole capture k is_whole. let counted = c.requires.fact_1.counted in counted_whole capture c.requires.fact_1.fine k (omega (arith, c.loop-k-test.true)) in
+    let there : c.loop-k.at + record_bytes + included_at capture c.loop-k.at ≤ length capture = whole_at capture k c.loop-k.at c.loop-k.invariant.1 is_whole in
+    let two : 1 < length (packet_at capture c.loop-k.at) = two_bytes capture k c.loop-k.at c.loop-k.invariant.1 is_whole in let inv = c.loop-k.invariant in let here = there in record { fact_1 = (c.requires.fact_1.laid, omega arith, two); fact_2 = (omega (arith, c.requires.fact_2.0, inv.2), omega (arith, c.requires.fact_2.1, inv.3), omega (arith, c.requires.fact_2.2, inv.4)) }
 
 pub overflow_add-at : goal.overflow_add-at
 overflow_add-at c =
-    let here = there c in
+    let capture : List ℕ = c.args.capture.now in
+    let k : ℕ = c.loop-k.k in
+    let is_whole :  = λ : Whole capture k is_whole. let counted = c.requires.fact_1.counted in counted_whole capture c.requires.fact_1.fine k (omega (arith, c.loop-k-test.true)) in
+    let there : c.loop-k.at + record_bytes + included_at capture c.loop-k.at ≤ length capture = whole_at capture k c.loop-k.at c.loop-k.invariant.1 is_whole in
+    let here = there in
     omega (arith, here)
 
 pub included-requires : goal.included-requires
 included-requires c =
-    let here = there c in
+    let capture : List ℕ = c.args.capture.now in
+    let k : ℕ = c.loop-k.k in
+    let is_whole :  = λ : Whole capture k is_whole. let counted = c.requires.fact_1.counted in counted_whole capture c.requires.fact_1.fine k (omega (arith, c.loop-k-test.true)) in
+    let there : c.loop-k.at + record_bytes + included_at capture c.loop-k.at ≤ length capture = whole_at capture k c.loop-k.at c.loop-k.invariant.1 is_whole in
+    let here = there in
     omega (arith, here)
 
 pub overflow_add-at-in-loop-k : goal.overflow_add-at-in-loop-k
 overflow_add-at-in-loop-k c =
-    let here = there c in
+    let capture : List ℕ = c.args.capture.now in
+    let k : ℕ = c.loop-k.k in
+    let is_whole :  = λ : Whole capture k is_whole. let counted = c.requires.fact_1.counted in counted_whole capture c.requires.fact_1.fine k (omega (arith, c.loop-k-test.true)) in
+    let there : c.loop-k.at + record_bytes + included_at capture c.loop-k.at ≤ length capture = whole_at capture k c.loop-k.at c.loop-k.invariant.1 is_whole in
+    let here = there in
     omega (arith, here, c.included.ensures.0)
 
 pub loop-k-preserved : goal.loop-k-preserved
 loop-k-preserved c =
-    let s = start c in
+    let capture : List ℕ = c.args.capture.now in
     let inv = c.loop-k.invariant in
     let l = c.loop-k in
     (
       omega arith,
-      begins_next (capture c) l.k l.at c.included.result inv.1 (c.included.ensures.1 s.pre.0.laid),
+      begins_next capture l.k l.at c.included.result inv.1 (c.included.ensures.1 c.requires.fact_1.laid),
       ap length c.read_record.ensures.0 ∙ simp length-set inv.2,
       ap length c.read_record.ensures.1 ∙ simp length-set inv.3,
       ap length c.read_record.ensures.2 ∙ simp length-set inv.4,
-      read_more (capture c) s.args.sorting (arrivals_with s.args.stamps.now s.args.classes.now s.args.lengths.now)
-          (arrivals_with l.stamps l.classes l.lengths) _ l.k l.at inv.5 inv.1 (omega (arith, s.pre.1.0))
-          (omega (arith, s.pre.1.1)) (omega (arith, s.pre.1.2)) (omega (arith, s.pre.1.0, inv.2)) c.read_record.ensures.3 c.read_record.ensures.0 c.read_record.ensures.1 c.read_record.ensures.2,
+      read_more capture c.args.sorting (arrivals_with c.args.stamps.now c.args.classes.now c.args.lengths.now)
+          (arrivals_with l.stamps l.classes l.lengths) _ l.k l.at inv.5 inv.1 (omega (arith, c.requires.fact_2.0))
+          (omega (arith, c.requires.fact_2.1)) (omega (arith, c.requires.fact_2.2)) (omega (arith, c.requires.fact_2.0, inv.2)) c.read_record.ensures.3 c.read_record.ensures.0 c.read_record.ensures.1 c.read_record.ensures.2,
     )
 
 pub returns : goal.returns

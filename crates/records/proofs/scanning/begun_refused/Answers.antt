@@ -23,104 +23,137 @@ returns-then-left-lt-RECORD_BYTES c =
     rw (← c.requires.begins, ← c.record_place-place.ensures.0) (c.refusal.ensures ∙ sym (holds _ 35 _ _ short (omega arith)))
 
 pub returns-then-left-included : goal.returns-then-left-included
+unfolding begun_refused
 returns-then-left-included c =
-    c.refusal-then-left-included.ensures ∙ sym ((let it : begun_refused ((c.args.capture.now)) c.args.k
+    let capture : List ℕ = c.args.capture.now in
+    let at : ℕ = c.args.at in
+    let left : ℕ = length capture - at - record_bytes in
+    let place : ℕ = c.record_place-place.result in
+    let past_header : begun_refused capture c.args.k
     ≡ first
-    (given (ltb ((length ((c.args.capture.now)) - (c.args.at) - record_bytes)) c.included.result) 36 ((c.record_place-place.result))
-    ∷ given (not_ipv4 c.included.result (packet_at ((c.args.capture.now)) ((c.args.at)))) 37 ((c.record_place-place.result))
-    ∷ given (ltb (stamp_at ((c.args.capture.now)) ((c.args.at))) c.args.last) 38 ((c.record_place-place.result))
+    (given (ltb left c.included.result) 36 place
+    ∷ given (not_ipv4 c.included.result (packet_at capture at)) 37 place
+    ∷ given (ltb (stamp_at capture at) c.args.last) 38 place
     ∷ []) = rw (
-      in_order ((c.args.capture.now)) c.args.k,
-      ← c.requires,
+      in_order capture c.args.k,
+      ← c.requires.before,
       ← c.requires.begins,
       ← c.record_place-place.ensures.0,
       ← c.included.ensures.1 c.requires.laid,
     )
-    (fails _ 35 _ _ (le-ltb (length ((c.args.capture.now)) - (c.args.at)) record_bytes c.if-left-lt-RECORD_BYTES.false)) in it) ∙ holds _ 36 _ _ (lt-ltb ((length ((c.args.capture.now)) - (c.args.at) - record_bytes)) c.included.result c.if-left-included.true) (omega arith))
+    (fails _ 35 _ _ (le-ltb (length capture - at) record_bytes c.if-left-lt-RECORD_BYTES.false)) in
+    c.refusal-then-left-included.ensures ∙ sym (past_header ∙ holds _ 36 _ _ (lt-ltb left c.included.result c.if-left-included.true) (omega arith))
 
 pub returns-then-not_ipv4 : goal.returns-then-not_ipv4
-returns-then-not_ipv4 c = c.refusal-then-not_ipv4.ensures ∙ sym ((let it : begun_refused ((c.args.capture.now)) c.args.k
+unfolding begun_refused
+returns-then-not_ipv4 c =
+    let capture : List ℕ = c.args.capture.now in
+    let at : ℕ = c.args.at in
+    let left : ℕ = length capture - at - record_bytes in
+    let place : ℕ = c.record_place-place.result in
+    let past_header : begun_refused capture c.args.k
     ≡ first
-    (given c.not_ipv4.result 37 ((c.record_place-place.result))
-    ∷ given (ltb (stamp_at ((c.args.capture.now)) ((c.args.at))) c.args.last) 38 ((c.record_place-place.result))
-    ∷ []) = let room = c.if-left-included.false in
-    let bytes = c.included in
-    let laid = c.pre.laid in
-    let whole = packet_length ((c.args.capture.now)) ((c.args.at)) bytes.result (bytes.ensures.1 laid) room in
-    let judged =
-    c.not_ipv4.ensures ∙ ap (λ (packet : List ℕ). not_ipv4 (length packet) packet) (c.packet.ensures laid)
-    ∙ ap (λ (n : ℕ). not_ipv4 n (packet_at ((c.args.capture.now)) ((c.args.at)))) whole
-    in
-    (let it : begun_refused ((c.args.capture.now)) c.args.k
-    ≡ first
-    (given (ltb ((length ((c.args.capture.now)) - (c.args.at) - record_bytes)) c.included.result) 36 ((c.record_place-place.result))
-    ∷ given (not_ipv4 c.included.result (packet_at ((c.args.capture.now)) ((c.args.at)))) 37 ((c.record_place-place.result))
-    ∷ given (ltb (stamp_at ((c.args.capture.now)) ((c.args.at))) c.args.last) 38 ((c.record_place-place.result))
+    (given (ltb left c.included.result) 36 place
+    ∷ given (not_ipv4 c.included.result (packet_at capture at)) 37 place
+    ∷ given (ltb (stamp_at capture at) c.args.last) 38 place
     ∷ []) = rw (
-      in_order ((c.args.capture.now)) c.args.k,
-      ← c.requires,
+      in_order capture c.args.k,
+      ← c.requires.before,
       ← c.requires.begins,
       ← c.record_place-place.ensures.0,
       ← c.included.ensures.1 c.requires.laid,
     )
-    (fails _ 35 _ _ (le-ltb (length ((c.args.capture.now)) - (c.args.at)) record_bytes c.if-left-lt-RECORD_BYTES.false)) in it) ∙ fails _ 36 _ _ (le-ltb ((length ((c.args.capture.now)) - (c.args.at) - record_bytes)) bytes.result room) ∙ rw (← judged) refl in it) ∙ holds _ 37 _ _ c.if-not_ipv4.true (omega arith))
+    (fails _ 35 _ _ (le-ltb (length capture - at) record_bytes c.if-left-lt-RECORD_BYTES.false)) in
+    let past_packet : begun_refused capture c.args.k
+    ≡ first
+    (given c.not_ipv4.result 37 place
+    ∷ given (ltb (stamp_at capture at) c.args.last) 38 place
+    ∷ []) = let room = c.if-left-included.false in
+    let bytes = c.included in
+    let laid = c.requires.laid in
+    let whole = packet_length capture at bytes.result (bytes.ensures.1 laid) room in
+    let judged =
+    c.not_ipv4.ensures ∙ ap (λ (packet : List ℕ). not_ipv4 (length packet) packet) (c.packet.ensures laid)
+    ∙ ap (λ (n : ℕ). not_ipv4 n (packet_at capture at)) whole
+    in
+    past_header ∙ fails _ 36 _ _ (le-ltb left bytes.result room) ∙ rw (← judged) refl in c.refusal-then-not_ipv4.ensures ∙ sym (past_packet ∙ holds _ 37 _ _ c.if-not_ipv4.true (omega arith))
 
 pub returns-then-stamp-last : goal.returns-then-stamp-last
+unfolding begun_refused
 returns-then-stamp-last c =
-    let late = sym ((let it : ltb c.stamp.result ((c.args.last)) ≡ ltb (stamp_at ((c.args.capture.now)) ((c.args.at))) ((c.args.last)) = ap (λ (n : ℕ). ltb n ((c.args.last))) (c.stamp.ensures.1 c.requires.laid) in it)) ∙ lt-ltb c.stamp.result ((c.args.last)) c.if-stamp-last.true in
-    c.refusal-then-stamp-last.ensures ∙ sym ((let it : begun_refused ((c.args.capture.now)) c.args.k
-    ≡ first (given (ltb (stamp_at ((c.args.capture.now)) ((c.args.at))) ((c.args.last))) 38 ((c.record_place-place.result)) ∷ []) = (let it : begun_refused ((c.args.capture.now)) c.args.k
+    let capture : List ℕ = c.args.capture.now in
+    let at : ℕ = c.args.at in
+    let left : ℕ = length capture - at - record_bytes in
+    let place : ℕ = c.record_place-place.result in
+    let past_header : begun_refused capture c.args.k
     ≡ first
-    (given c.not_ipv4.result 37 ((c.record_place-place.result))
-    ∷ given (ltb (stamp_at ((c.args.capture.now)) ((c.args.at))) c.args.last) 38 ((c.record_place-place.result))
-    ∷ []) = let room = c.if-left-included.false in
-    let bytes = c.included in
-    let laid = c.pre.laid in
-    let whole = packet_length ((c.args.capture.now)) ((c.args.at)) bytes.result (bytes.ensures.1 laid) room in
-    let judged =
-    c.not_ipv4.ensures ∙ ap (λ (packet : List ℕ). not_ipv4 (length packet) packet) (c.packet.ensures laid)
-    ∙ ap (λ (n : ℕ). not_ipv4 n (packet_at ((c.args.capture.now)) ((c.args.at)))) whole
-    in
-    (let it : begun_refused ((c.args.capture.now)) c.args.k
-    ≡ first
-    (given (ltb ((length ((c.args.capture.now)) - (c.args.at) - record_bytes)) c.included.result) 36 ((c.record_place-place.result))
-    ∷ given (not_ipv4 c.included.result (packet_at ((c.args.capture.now)) ((c.args.at)))) 37 ((c.record_place-place.result))
-    ∷ given (ltb (stamp_at ((c.args.capture.now)) ((c.args.at))) c.args.last) 38 ((c.record_place-place.result))
+    (given (ltb left c.included.result) 36 place
+    ∷ given (not_ipv4 c.included.result (packet_at capture at)) 37 place
+    ∷ given (ltb (stamp_at capture at) c.args.last) 38 place
     ∷ []) = rw (
-      in_order ((c.args.capture.now)) c.args.k,
-      ← c.requires,
+      in_order capture c.args.k,
+      ← c.requires.before,
       ← c.requires.begins,
       ← c.record_place-place.ensures.0,
       ← c.included.ensures.1 c.requires.laid,
     )
-    (fails _ 35 _ _ (le-ltb (length ((c.args.capture.now)) - (c.args.at)) record_bytes c.if-left-lt-RECORD_BYTES.false)) in it) ∙ fails _ 36 _ _ (le-ltb ((length ((c.args.capture.now)) - (c.args.at) - record_bytes)) bytes.result room) ∙ rw (← judged) refl in it) ∙ fails _ 37 _ _ c.if-not_ipv4.false in it) ∙ holds _ 38 _ _ late (omega arith))
+    (fails _ 35 _ _ (le-ltb (length capture - at) record_bytes c.if-left-lt-RECORD_BYTES.false)) in
+    let past_packet : begun_refused capture c.args.k
+    ≡ first
+    (given c.not_ipv4.result 37 place
+    ∷ given (ltb (stamp_at capture at) c.args.last) 38 place
+    ∷ []) = let room = c.if-left-included.false in
+    let bytes = c.included in
+    let laid = c.requires.laid in
+    let whole = packet_length capture at bytes.result (bytes.ensures.1 laid) room in
+    let judged =
+    c.not_ipv4.ensures ∙ ap (λ (packet : List ℕ). not_ipv4 (length packet) packet) (c.packet.ensures laid)
+    ∙ ap (λ (n : ℕ). not_ipv4 n (packet_at capture at)) whole
+    in
+    past_header ∙ fails _ 36 _ _ (le-ltb left bytes.result room) ∙ rw (← judged) refl in
+    let last : ℕ = c.args.last in
+    let stamped : ltb c.stamp.result last ≡ ltb (stamp_at capture at) last = ap (λ (n : ℕ). ltb n last) (c.stamp.ensures.1 c.requires.laid) in
+    let past_ipv4 : begun_refused capture c.args.k
+    ≡ first (given (ltb (stamp_at capture at) last) 38 place ∷ []) = past_packet ∙ fails _ 37 _ _ c.if-not_ipv4.false in
+    let late = sym stamped ∙ lt-ltb c.stamp.result last c.if-stamp-last.true in
+    c.refusal-then-stamp-last.ensures ∙ sym (past_ipv4 ∙ holds _ 38 _ _ late (omega arith))
 
 pub returns : goal.returns
+unfolding begun_refused
 returns c =
-    let fine = sym ((let it : ltb c.stamp.result ((c.args.last)) ≡ ltb (stamp_at ((c.args.capture.now)) ((c.args.at))) ((c.args.last)) = ap (λ (n : ℕ). ltb n ((c.args.last))) (c.stamp.ensures.1 c.requires.laid) in it)) ∙ le-ltb c.stamp.result ((c.args.last)) c.if-stamp-last.false in
-    c.none.ensures ∙ sym ((let it : begun_refused ((c.args.capture.now)) c.args.k
-    ≡ first (given (ltb (stamp_at ((c.args.capture.now)) ((c.args.at))) ((c.args.last))) 38 ((c.record_place-place.result)) ∷ []) = (let it : begun_refused ((c.args.capture.now)) c.args.k
+    let capture : List ℕ = c.args.capture.now in
+    let at : ℕ = c.args.at in
+    let left : ℕ = length capture - at - record_bytes in
+    let place : ℕ = c.record_place-place.result in
+    let past_header : begun_refused capture c.args.k
     ≡ first
-    (given c.not_ipv4.result 37 ((c.record_place-place.result))
-    ∷ given (ltb (stamp_at ((c.args.capture.now)) ((c.args.at))) c.args.last) 38 ((c.record_place-place.result))
-    ∷ []) = let room = c.if-left-included.false in
-    let bytes = c.included in
-    let laid = c.pre.laid in
-    let whole = packet_length ((c.args.capture.now)) ((c.args.at)) bytes.result (bytes.ensures.1 laid) room in
-    let judged =
-    c.not_ipv4.ensures ∙ ap (λ (packet : List ℕ). not_ipv4 (length packet) packet) (c.packet.ensures laid)
-    ∙ ap (λ (n : ℕ). not_ipv4 n (packet_at ((c.args.capture.now)) ((c.args.at)))) whole
-    in
-    (let it : begun_refused ((c.args.capture.now)) c.args.k
-    ≡ first
-    (given (ltb ((length ((c.args.capture.now)) - (c.args.at) - record_bytes)) c.included.result) 36 ((c.record_place-place.result))
-    ∷ given (not_ipv4 c.included.result (packet_at ((c.args.capture.now)) ((c.args.at)))) 37 ((c.record_place-place.result))
-    ∷ given (ltb (stamp_at ((c.args.capture.now)) ((c.args.at))) c.args.last) 38 ((c.record_place-place.result))
+    (given (ltb left c.included.result) 36 place
+    ∷ given (not_ipv4 c.included.result (packet_at capture at)) 37 place
+    ∷ given (ltb (stamp_at capture at) c.args.last) 38 place
     ∷ []) = rw (
-      in_order ((c.args.capture.now)) c.args.k,
-      ← c.requires,
+      in_order capture c.args.k,
+      ← c.requires.before,
       ← c.requires.begins,
       ← c.record_place-place.ensures.0,
       ← c.included.ensures.1 c.requires.laid,
     )
-    (fails _ 35 _ _ (le-ltb (length ((c.args.capture.now)) - (c.args.at)) record_bytes c.if-left-lt-RECORD_BYTES.false)) in it) ∙ fails _ 36 _ _ (le-ltb ((length ((c.args.capture.now)) - (c.args.at) - record_bytes)) bytes.result room) ∙ rw (← judged) refl in it) ∙ fails _ 37 _ _ c.if-not_ipv4.false in it) ∙ fails_last _ 38 _ fine)
+    (fails _ 35 _ _ (le-ltb (length capture - at) record_bytes c.if-left-lt-RECORD_BYTES.false)) in
+    let past_packet : begun_refused capture c.args.k
+    ≡ first
+    (given c.not_ipv4.result 37 place
+    ∷ given (ltb (stamp_at capture at) c.args.last) 38 place
+    ∷ []) = let room = c.if-left-included.false in
+    let bytes = c.included in
+    let laid = c.requires.laid in
+    let whole = packet_length capture at bytes.result (bytes.ensures.1 laid) room in
+    let judged =
+    c.not_ipv4.ensures ∙ ap (λ (packet : List ℕ). not_ipv4 (length packet) packet) (c.packet.ensures laid)
+    ∙ ap (λ (n : ℕ). not_ipv4 n (packet_at capture at)) whole
+    in
+    past_header ∙ fails _ 36 _ _ (le-ltb left bytes.result room) ∙ rw (← judged) refl in
+    let last : ℕ = c.args.last in
+    let stamped : ltb c.stamp.result last ≡ ltb (stamp_at capture at) last = ap (λ (n : ℕ). ltb n last) (c.stamp.ensures.1 c.requires.laid) in
+    let past_ipv4 : begun_refused capture c.args.k
+    ≡ first (given (ltb (stamp_at capture at) last) 38 place ∷ []) = past_packet ∙ fails _ 37 _ _ c.if-not_ipv4.false in
+    let fine = sym stamped ∙ le-ltb c.stamp.result last c.if-stamp-last.false in
+    c.none.ensures ∙ sym (past_ipv4 ∙ fails_last _ 38 _ fine)

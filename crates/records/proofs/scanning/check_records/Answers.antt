@@ -17,37 +17,6 @@ use Rattle.records.proofs.scanning.check_records.Goals as goal
 
 -- ── after the call that looks at record k ──
 
-module _ (b : tie.After-begun-refused invariant-loop decreases-loop) where
-  abbrev at_loop : tie.At-loop invariant-loop decreases-loop
-  at_loop = b.before.before
-
-  abbrev capture : List ℕ
-  capture = at_loop.before.before.args.capture.now
-
-  abbrev layout : Layout
-  layout = at_loop.before.before.args.layout
-
-  abbrev k : ℕ
-  k = at_loop.loop.k
-
-  abbrev at : ℕ
-  at = at_loop.loop.at
-
-  abbrev last : ℕ
-  last = at_loop.loop.last
-
-  next : Next capture layout k at last
-  next = at_loop.loop.inv.0
-
-  passed : Passed capture k
-  passed = at_loop.loop.inv.1
-
-  inside : offset capture k < length capture
-  inside = rw (← next.begins) b.before.loop-test.taken
-
-  there : b.begun_refused.result.number ≡ 0 → Whole capture k
-  there fine = whole capture k inside (rw (← b.begun_refused.ensures) fine)
-
 pub loop-at-init : goal.loop-at-init
 unfolding offset stamp_before
 loop-at-init c =
@@ -58,16 +27,30 @@ begun_refused-refusal-requires c = c.loop-at.invariant.0
 
 pub returns-then-refusal-ne0 : goal.returns-then-refusal-ne0
 returns-then-refusal-ne0 c =
-    let found = c.begun_refused-refusal.ensures ∙ passed_stop (capture c) (k c) (passed c) (inside c) (rw (← c.begun_refused-refusal.ensures) c.if-refusal-ne0.true) in
-    c.refusing.ensures ∙ scan_stops (capture c) c.begun_refused-refusal.result c.if-refusal-ne0.true ∙ ap (scan_of (capture c)) found
+    let capture : List ℕ = c.args.capture.now in
+    let k : ℕ = c.loop-at.k in
+    let passed :  = λ : Passed capture k passed. c.loop-at.invariant.1 in
+    let inside :  = λ : offset capture k < length capture inside. rw (← next c.begins) c.loop-at-test.true in
+    let found = c.begun_refused-refusal.ensures ∙ passed_stop capture k passed inside (rw (← c.begun_refused-refusal.ensures) c.if-refusal-ne0.true) in
+    c.refusing.ensures ∙ scan_stops capture c.begun_refused-refusal.result c.if-refusal-ne0.true ∙ ap (scan_of capture) found
 
 pub stamp-last-requires : goal.stamp-last-requires
-stamp-last-requires c = let w = there c c.if-refusal-ne0.false in let n = next c in omega (arith, w.there, n.begins)
+stamp-last-requires c =
+    let capture : List ℕ = c.args.capture.now in
+    let k : ℕ = c.loop-at.k in
+    let next :  = λ : Next capture layout k at last next. c.loop-at.invariant.0 in
+    let inside :  = λ : offset capture k < length capture inside. rw (← next c.begins) c.loop-at-test.true in
+    let there : c.begun_refused-refusal.result.number ≡ 0 → Whole capture k = λ fine. whole capture k inside (rw (← c.begun_refused-refusal.ensures) fine) in let w = there c.if-refusal-ne0.false in let n = next in omega (arith, w.there, n.begins)
 
 pub included-requires : goal.included-requires
 included-requires c =
-    let w = there c c.if-refusal-ne0.false in
-    let n = next c in
+    let capture : List ℕ = c.args.capture.now in
+    let k : ℕ = c.loop-at.k in
+    let next :  = λ : Next capture layout k at last next. c.loop-at.invariant.0 in
+    let inside :  = λ : offset capture k < length capture inside. rw (← next c.begins) c.loop-at-test.true in
+    let there : c.begun_refused-refusal.result.number ≡ 0 → Whole capture k = λ fine. whole capture k inside (rw (← c.begun_refused-refusal.ensures) fine) in
+    let w = there c.if-refusal-ne0.false in
+    let n = next in
     omega (arith, w.there, n.begins)
 
 pub overflow_add-at-in-loop-at : goal.overflow_add-at-in-loop-at
@@ -75,17 +58,29 @@ overflow_add-at-in-loop-at c = omega (arith, c.included.ensures.0)
 
 pub overflow_add-k : goal.overflow_add-k
 overflow_add-k c =
-    let n = next c in
-    omega (arith, n.begins, offset_least (capture c) (k c))
+    let capture : List ℕ = c.args.capture.now in
+    let k : ℕ = c.loop-at.k in
+    let next :  = λ : Next capture layout k at last next. c.loop-at.invariant.0 in
+    let n = next in
+    omega (arith, n.begins, offset_least capture k)
 
 pub loop-at-preserved : goal.loop-at-preserved
 loop-at-preserved c =
+    let capture : List ℕ = c.args.capture.now in
+    let layout : Layout = c.args.layout in
+    let k : ℕ = c.loop-at.k in
+    let at : ℕ = c.loop-at.at in
+    let last : ℕ = c.loop-at.last in
+    let next :  = λ : Next capture layout k at last next. c.loop-at.invariant.0 in
+    let passed :  = λ : Passed capture k passed. c.loop-at.invariant.1 in
+    let inside :  = λ : offset capture k < length capture inside. rw (← next c.begins) c.loop-at-test.true in
+    let there : c.begun_refused-refusal.result.number ≡ 0 → Whole capture k = λ fine. whole capture k inside (rw (← c.begun_refused-refusal.ensures) fine) in
     let fine = c.if-refusal-ne0.false in
-    let n = next c in
-    let w = there c fine in (
-      next_more (capture c) (layout c) (k c) (at c) (last c) c.included.result c.stamp-last.result n w
+    let n = next in
+    let w = there fine in (
+      next_more capture layout k at last c.included.result c.stamp-last.result n w
           (c.included.ensures.1 n.laid) (c.stamp-last.ensures.1 n.laid),
-      rw (add-one (k c)) (passed_more (capture c) (k c) (passed c) (inside c) (rw (← c.begun_refused-refusal.ensures) fine)),
+      rw (add-one k) (passed_more capture k passed inside (rw (← c.begun_refused-refusal.ensures) fine)),
     )
 
 pub returns : goal.returns
