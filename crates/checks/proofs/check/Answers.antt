@@ -34,7 +34,7 @@ read_sized-reading-requires c =
     let room : Room = room_with c.args.order c.args.report c.args.lags c.args.working in
     let lengths_fine : c.check_lengths-unfit.result.number ≡ 0 → (lengths_refused table events
     room).number ≡ 0 = λ none. rw (← c.check_lengths-unfit.ensures) none in
-    whole_sized table events room (lengths_fine c.if-unfit-ne0.false)
+    whole_sized table events room (rw (← c.check_lengths-unfit.ensures) c.if-unfit-ne0.false)
 
 pub returns-then-bad-ne0 : goal.returns-then-bad-ne0
 returns-then-bad-ne0 c =
@@ -46,14 +46,14 @@ returns-then-bad-ne0 c =
     let some = c.if-bad-ne0.true in
     c.stopping-then-bad-ne0.ensures
     ∙ checked_stops table events room c.read_sized-reading.result.refusal
-    (by_table table events room (lengths_fine c.if-unfit-ne0.false) (rw (← table_found) some) ∙ sym table_found) some
+    (by_table table events room (rw (← c.check_lengths-unfit.ensures) c.if-unfit-ne0.false) (rw (← table_found) some) ∙ sym table_found) some
 
 pub check_list-list-requires : goal.check_list-list-requires
 check_list-list-requires c =
     let table : Table = table_of c.args.identifiers.now c.args.parent_identifiers.now c.args.shares.now in
     let events : Events = events_of c.args.classes.now c.args.lengths.now in
     let room : Room = room_with c.args.order c.args.report c.args.lags c.args.working in
-    let none = lengths_fine c.if-unfit-ne0.false in
+    let none : (lengths_refused table events room).number ≡ 0 = rw (← c.check_lengths-unfit.ensures) c.if-unfit-ne0.false in
     let many = whole_listed table events room none in
     let size = whole_sized table events room none in
     (size.some, size.most, many.few, many.even)

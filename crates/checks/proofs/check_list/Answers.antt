@@ -16,17 +16,6 @@ use Rattle.checks.specs.Counted.{Known, Meets}
 use Rattle.checks.proofs.Meeting.{counted_plain, Passed, passed_none, passed_stop, passed_more}
 use Rattle.checks.proofs.check_list.Goals as goal
 
--- what the call finds is what the event at the loop's place meets
-met : (d : tie.After-check-event invariant-loop decreases-loop) (tree : Tree) → Known tree (start d).args.identifiers.now (start d).args.senders.now
-    → Meets tree (loop-at d).loop.i (length_word (events (start d)) (loop-at d).loop.i) (event (events (start d)) (loop-at d).loop.i)
-    (leb (loop-at d).loop.arrivals (loop-at d).loop.finishes) d.check-event.result
-unfolding event
-met d tree known =
-    let at = (loop-at d).loop in
-    subst
-    (λ (e : Event). Meets tree at.i (length_word (events (start d)) at.i) e (leb at.arrivals at.finishes) d.check-event.result)
-    d.before.before.decode.ensures (d.check-event.ensures tree known)
-
 pub loop-i-init : goal.loop-i-init
 unfolding no_rows
 loop-i-init c =
@@ -34,15 +23,22 @@ loop-i-init c =
     (omega arith, omega arith, omega arith, λ tree known. passed_none tree events no_rows refl)
 
 pub returns-then-refusal-ne0 : goal.returns-then-refusal-ne0
+unfolding event
 returns-then-refusal-ne0 c tree known =
     let events : Events = events_of c.args.classes.now c.args.lengths.now in
+    let met : (tree : Tree) → Known tree c.args.identifiers.now c.args.senders.now
+    → Meets tree c.loop-i.i (length_word events c.loop-i.i) (event events c.loop-i.i)
+    (leb c.loop-i.arrivals c.loop-i.finishes) c.check_event-check.result = λ tree known. let at = c.loop-i in
+    subst
+    (λ (e : Event). Meets tree at.i (length_word events at.i) e (leb at.arrivals at.finishes) c.check_event-check.result)
+    c.decode-event.ensures (c.check_event-check.ensures tree known) in
     let a = c.args in
     let at = c.loop-i in
     let some = c.if-refusal-ne0.true in
     record {
       refusal =
           passed_stop tree a.identifiers.now a.senders.now known events at.i at.rows at.arrivals
-          at.finishes (at.inv.3 tree known) c.check_event-check.result (met c tree known) (length a.classes.now) (omega arith)
+          at.finishes (at.invariant.3 tree known) c.check_event-check.result (met tree known) (length a.classes.now) (omega arith)
           some;
       rows = λ none. absurd (some none);
     }
@@ -57,6 +53,12 @@ pub loop-i-preserved : goal.loop-i-preserved
 unfolding event
 loop-i-preserved c =
     let events : Events = events_of c.args.classes.now c.args.lengths.now in
+    let met : (tree : Tree) → Known tree c.args.identifiers.now c.args.senders.now
+    → Meets tree c.loop-i.i (length_word events c.loop-i.i) (event events c.loop-i.i)
+    (leb c.loop-i.arrivals c.loop-i.finishes) c.check_event-check.result = λ tree known. let at = c.loop-i in
+    subst
+    (λ (e : Event). Meets tree at.i (length_word events at.i) e (leb at.arrivals at.finishes) c.check_event-check.result)
+    c.decode-event.ensures (c.check_event-check.ensures tree known) in
     let a = c.args in
     let at = c.loop-i in (
       omega arith,
@@ -65,7 +67,7 @@ loop-i-preserved c =
       λ tree known.
           rw (add-one, c.one_arrival-arrivals.ensures.0, c.one_finish-finishes.ensures.0, c.decode-event.ensures)
           (passed_more tree a.identifiers.now a.senders.now known events at.i at.rows at.arrivals
-          at.finishes (at.inv.3 tree known) c.check_event-check.result (met c tree known) c.if-refusal-ne0.false),
+          at.finishes (at.invariant.3 tree known) c.check_event-check.result (met tree known) c.if-refusal-ne0.false),
     )
 
 pub returns : goal.returns

@@ -8,8 +8,7 @@ use Rattle.choosing.proofs.new_head.Goals as goal
 
 pub overflow_add-finishes : goal.overflow_add-finishes
 overflow_add-finishes c =
-    let known = c.requires.1.1 in
-    record { fits = rw (c.next_start-s.ensures, c.charge.ensures) (charged_fits known.1 _ _ _ _ _ known.0) }
+    record { fits = rw (c.next_start-s.ensures, c.charge.ensures) (charged_fits c.requires.leeway _ _ _ _ _ c.requires.length_le_most_bytes) }
 
 pub returns : goal.returns
 unfolding new_head charged with_head

@@ -21,7 +21,7 @@ pub returns-in_default-2 : goal.returns-in_default-2
 unfolding class_for
 returns-in_default-2 c =
     let p = c.args.point in
-    rw (ne_eqb p 46 c.in-46.rest.1, lt-leb 48 p (omega arith), le-leb 8 p (omega arith), lt-leb p 39 (omega arith))
+    rw (ne_eqb p 46 (omega arith), lt-leb 48 p (omega arith), le-leb 8 p (omega arith), lt-leb p 39 (omega arith))
 
 pub returns-in_default-3 : goal.returns-in_default-3
 unfolding class_for
@@ -31,7 +31,7 @@ returns-in_default-3 c =
 
 pub returns-in-46 : goal.returns-in-46
 unfolding class_for
-returns-in-46 c = rw (eq-eqb c.args.point 46 c.in-46.keys1)
+returns-in-46 c = rw (eq-eqb c.args.point 46 (omega arith))
 
 pub returns-in-46-2 : goal.returns-in-46-2
 unfolding class_for

@@ -25,7 +25,7 @@ pub read_record-requires : goal.read_record-requires
 read_record-requires c =
     let capture : List ℕ = c.args.capture.now in
     let k : ℕ = c.loop-k.k in
-    let is_whole :  = λ : Whole capture k is_whole. let counted = c.requires.fact_1.counted in counted_whole capture c.requires.fact_1.fine k (omega (arith, c.loop-k-test.true)) in
+    let is_whole : Whole capture k = let counted = c.requires.fact_1.counted in counted_whole capture c.requires.fact_1.fine k (omega (arith, c.loop-k-test.true)) in
     let there : c.loop-k.at + record_bytes + included_at capture c.loop-k.at ≤ length capture = whole_at capture k c.loop-k.at c.loop-k.invariant.1 is_whole in
     let two : 1 < length (packet_at capture c.loop-k.at) = two_bytes capture k c.loop-k.at c.loop-k.invariant.1 is_whole in let inv = c.loop-k.invariant in let here = there in record { fact_1 = (c.requires.fact_1.laid, omega arith, two); fact_2 = (omega (arith, c.requires.fact_2.0, inv.2), omega (arith, c.requires.fact_2.1, inv.3), omega (arith, c.requires.fact_2.2, inv.4)) }
 
@@ -33,7 +33,7 @@ pub overflow_add-at : goal.overflow_add-at
 overflow_add-at c =
     let capture : List ℕ = c.args.capture.now in
     let k : ℕ = c.loop-k.k in
-    let is_whole :  = λ : Whole capture k is_whole. let counted = c.requires.fact_1.counted in counted_whole capture c.requires.fact_1.fine k (omega (arith, c.loop-k-test.true)) in
+    let is_whole : Whole capture k = let counted = c.requires.fact_1.counted in counted_whole capture c.requires.fact_1.fine k (omega (arith, c.loop-k-test.true)) in
     let there : c.loop-k.at + record_bytes + included_at capture c.loop-k.at ≤ length capture = whole_at capture k c.loop-k.at c.loop-k.invariant.1 is_whole in
     let here = there in
     omega (arith, here)
@@ -42,7 +42,7 @@ pub included-requires : goal.included-requires
 included-requires c =
     let capture : List ℕ = c.args.capture.now in
     let k : ℕ = c.loop-k.k in
-    let is_whole :  = λ : Whole capture k is_whole. let counted = c.requires.fact_1.counted in counted_whole capture c.requires.fact_1.fine k (omega (arith, c.loop-k-test.true)) in
+    let is_whole : Whole capture k = let counted = c.requires.fact_1.counted in counted_whole capture c.requires.fact_1.fine k (omega (arith, c.loop-k-test.true)) in
     let there : c.loop-k.at + record_bytes + included_at capture c.loop-k.at ≤ length capture = whole_at capture k c.loop-k.at c.loop-k.invariant.1 is_whole in
     let here = there in
     omega (arith, here)
@@ -51,7 +51,7 @@ pub overflow_add-at-in-loop-k : goal.overflow_add-at-in-loop-k
 overflow_add-at-in-loop-k c =
     let capture : List ℕ = c.args.capture.now in
     let k : ℕ = c.loop-k.k in
-    let is_whole :  = λ : Whole capture k is_whole. let counted = c.requires.fact_1.counted in counted_whole capture c.requires.fact_1.fine k (omega (arith, c.loop-k-test.true)) in
+    let is_whole : Whole capture k = let counted = c.requires.fact_1.counted in counted_whole capture c.requires.fact_1.fine k (omega (arith, c.loop-k-test.true)) in
     let there : c.loop-k.at + record_bytes + included_at capture c.loop-k.at ≤ length capture = whole_at capture k c.loop-k.at c.loop-k.invariant.1 is_whole in
     let here = there in
     omega (arith, here, c.included.ensures.0)

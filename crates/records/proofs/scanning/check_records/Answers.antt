@@ -28,26 +28,36 @@ begun_refused-refusal-requires c = c.loop-at.invariant.0
 pub returns-then-refusal-ne0 : goal.returns-then-refusal-ne0
 returns-then-refusal-ne0 c =
     let capture : List ℕ = c.args.capture.now in
+    let layout : Layout = c.args.layout in
     let k : ℕ = c.loop-at.k in
-    let passed :  = λ : Passed capture k passed. c.loop-at.invariant.1 in
-    let inside :  = λ : offset capture k < length capture inside. rw (← next c.begins) c.loop-at-test.true in
+    let at : ℕ = c.loop-at.at in
+    let last : ℕ = c.loop-at.last in
+    let next : Next capture layout k at last = c.loop-at.invariant.0 in
+    let passed : Passed capture k = c.loop-at.invariant.1 in
+    let inside : offset capture k < length capture = rw (← next.begins) c.loop-at-test.true in
     let found = c.begun_refused-refusal.ensures ∙ passed_stop capture k passed inside (rw (← c.begun_refused-refusal.ensures) c.if-refusal-ne0.true) in
     c.refusing.ensures ∙ scan_stops capture c.begun_refused-refusal.result c.if-refusal-ne0.true ∙ ap (scan_of capture) found
 
 pub stamp-last-requires : goal.stamp-last-requires
 stamp-last-requires c =
     let capture : List ℕ = c.args.capture.now in
+    let layout : Layout = c.args.layout in
     let k : ℕ = c.loop-at.k in
-    let next :  = λ : Next capture layout k at last next. c.loop-at.invariant.0 in
-    let inside :  = λ : offset capture k < length capture inside. rw (← next c.begins) c.loop-at-test.true in
+    let at : ℕ = c.loop-at.at in
+    let last : ℕ = c.loop-at.last in
+    let next : Next capture layout k at last = c.loop-at.invariant.0 in
+    let inside : offset capture k < length capture = rw (← next.begins) c.loop-at-test.true in
     let there : c.begun_refused-refusal.result.number ≡ 0 → Whole capture k = λ fine. whole capture k inside (rw (← c.begun_refused-refusal.ensures) fine) in let w = there c.if-refusal-ne0.false in let n = next in omega (arith, w.there, n.begins)
 
 pub included-requires : goal.included-requires
 included-requires c =
     let capture : List ℕ = c.args.capture.now in
+    let layout : Layout = c.args.layout in
     let k : ℕ = c.loop-at.k in
-    let next :  = λ : Next capture layout k at last next. c.loop-at.invariant.0 in
-    let inside :  = λ : offset capture k < length capture inside. rw (← next c.begins) c.loop-at-test.true in
+    let at : ℕ = c.loop-at.at in
+    let last : ℕ = c.loop-at.last in
+    let next : Next capture layout k at last = c.loop-at.invariant.0 in
+    let inside : offset capture k < length capture = rw (← next.begins) c.loop-at-test.true in
     let there : c.begun_refused-refusal.result.number ≡ 0 → Whole capture k = λ fine. whole capture k inside (rw (← c.begun_refused-refusal.ensures) fine) in
     let w = there c.if-refusal-ne0.false in
     let n = next in
@@ -59,8 +69,11 @@ overflow_add-at-in-loop-at c = omega (arith, c.included.ensures.0)
 pub overflow_add-k : goal.overflow_add-k
 overflow_add-k c =
     let capture : List ℕ = c.args.capture.now in
+    let layout : Layout = c.args.layout in
     let k : ℕ = c.loop-at.k in
-    let next :  = λ : Next capture layout k at last next. c.loop-at.invariant.0 in
+    let at : ℕ = c.loop-at.at in
+    let last : ℕ = c.loop-at.last in
+    let next : Next capture layout k at last = c.loop-at.invariant.0 in
     let n = next in
     omega (arith, n.begins, offset_least capture k)
 
@@ -71,9 +84,9 @@ loop-at-preserved c =
     let k : ℕ = c.loop-at.k in
     let at : ℕ = c.loop-at.at in
     let last : ℕ = c.loop-at.last in
-    let next :  = λ : Next capture layout k at last next. c.loop-at.invariant.0 in
-    let passed :  = λ : Passed capture k passed. c.loop-at.invariant.1 in
-    let inside :  = λ : offset capture k < length capture inside. rw (← next c.begins) c.loop-at-test.true in
+    let next : Next capture layout k at last = c.loop-at.invariant.0 in
+    let passed : Passed capture k = c.loop-at.invariant.1 in
+    let inside : offset capture k < length capture = rw (← next.begins) c.loop-at-test.true in
     let there : c.begun_refused-refusal.result.number ≡ 0 → Whole capture k = λ fine. whole capture k inside (rw (← c.begun_refused-refusal.ensures) fine) in
     let fine = c.if-refusal-ne0.false in
     let n = next in
