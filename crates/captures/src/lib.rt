@@ -111,8 +111,8 @@ fn run_list(
         working,
     );
     if answer.number == 0 {
-        csv::copy(list_classes, classes);
-        csv::copy(list_lengths, lengths);
+        csv_text::copy(list_classes, classes);
+        csv_text::copy(list_lengths, lengths);
     }
     answer
 }

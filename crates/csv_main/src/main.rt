@@ -1,4 +1,4 @@
-// Reads the class table on standard input, writes it again, and writes a report over its rows, by the routines of `csv`. It prints the
+// Reads the class table on standard input, writes it again, and writes a report over its rows, by the routines of `csv_text`. It prints the
 // number, place, second place and count of each answer, and what was written after it.
 #![tactic(auto)]
 
@@ -40,7 +40,7 @@ fn print_written(answer: Answer, text: &[u8]) {
 
 fn write<'a>(identifiers: &'a [u32], parents: &'a [u32], shares: &'a [u32]) {
     let mut text = [0u8; TABLE_BYTES];
-    let written = csv::write_table(identifiers, parents, shares, &mut text);
+    let written = csv_text::write_table(identifiers, parents, shares, &mut text);
     print_written(written, &text);
 }
 
@@ -65,7 +65,7 @@ fn report(identifiers: &[u32]) {
         1,
     ];
     let lags = [i64::MIN, -42000, i64::MAX];
-    let written = csv::write_report(identifiers, &words, &lags, &mut text);
+    let written = csv_text::write_report(identifiers, &words, &lags, &mut text);
     print_written(written, &text);
 }
 
@@ -75,7 +75,7 @@ fn main() {
     let mut identifiers = [0u32; 256];
     let mut parents = [0u32; 256];
     let mut shares = [0u32; 256];
-    let read = csv::read_table(&text, size, &mut identifiers, &mut parents, &mut shares);
+    let read = csv_text::read_table(&text, size, &mut identifiers, &mut parents, &mut shares);
     print(read);
     write(
         words_of(&identifiers, read.count),

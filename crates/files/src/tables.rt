@@ -43,7 +43,7 @@ fn read_held(
     ensures { LoadsTable (table_of identifiers.old parents.old shares.old)
         (table_of identifiers.new parents.new shares.new) result }
 {
-    let read = csv::read_rows(text, size, identifiers, parents, shares);
+    let read = csv_text::read_rows(text, size, identifiers, parents, shares);
     let fault = read.fault;
     if fault.number == 0 {
         return Loaded {

@@ -26,7 +26,7 @@ fn with_text(text: &[u8], size: usize) -> Status {
     let mut identifiers = [0u32; HELD_ROWS];
     let mut parents = [0u32; HELD_ROWS];
     let mut shares = [0u32; HELD_ROWS];
-    let read = csv::read_rows(text, size, &mut identifiers, &mut parents, &mut shares);
+    let read = csv_text::read_rows(text, size, &mut identifiers, &mut parents, &mut shares);
     let fault = read.fault;
     if fault.number != 0 {
         return faulty(fault, text, size);

@@ -91,10 +91,10 @@ fn at_byte(page: &mut [u8], used: usize, number: u32, line: u64, text: &[u8]) ->
 fn stopped(text: &[u8]) -> Stop
     ensures { result.scan ≡ (read_text (take result.at text.now)).scan }
 {
-    let mut scan = csv::unread();
+    let mut scan = csv_text::unread();
     let mut i = 0;
     while i < text.len() {
-        let next = csv::after(scan, text[i]);
+        let next = csv_text::after(scan, text[i]);
         let place = next.place;
         if faulty(place) {
             return Stop { at: i, scan };

@@ -7,7 +7,7 @@ use native.Mathlib.Omega.{arith}
 use Rattle.input.specs.Lent.{table_of}
 use Rattle.input.specs.declared.Refusal.{Refusal}
 use Rattle.forms.specs.Outcomes.{fault_found}
-use Rattle.csv.proofs.Cases.{too_long, rows_faulty}
+use Rattle.csv_text.proofs.Cases.{too_long, rows_faulty}
 use borrow.Author.Rules.{rules}
 use Rattle.files.proofs.tables.load_table.Statement.{statement}
 use Rattle.files.proofs.tables.load_table.Tie as tie

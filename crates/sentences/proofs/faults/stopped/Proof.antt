@@ -6,7 +6,7 @@ use native.Mathlib.Omega.{arith}
 use lib.ListN.{length, take, length-take}
 use Rattle.forms.specs.declared.Scan.{Scan}
 use Rattle.forms.specs.Faults.{read_text, with_bytes}
-use Rattle.csv.proofs.Turns.{lines_most, scan_turn}
+use Rattle.csv_text.proofs.Turns.{lines_most, scan_turn}
 use borrow.Author.Rules.{rules}
 use Rattle.sentences.proofs.faults.stopped.Statement.{statement}
 use Rattle.sentences.proofs.faults.stopped.Tie as tie

@@ -1,0 +1,146 @@
+// A whole text: its first fault, and the rows that it has.
+ghost use Rattle.std.specs.Prelude.{◌≡◌, cond, suc, ◌-◌, ◌<◌, ◌^◌, eqb, set};
+ghost use Rattle.input.specs.Lent.{table_of};
+ghost use Rattle.forms.specs.Faults as faults;
+ghost use Rattle.forms.specs.Outcomes.{table_over};
+ghost use Rattle.csv_text.specs.Kept.{Room, keeping};
+
+use crate::places::after;
+use forms::{Place, Scan};
+use input::Refusal;
+
+// The largest line that a place can say.
+const MOST_LINE: u64 = u32::MAX as u64;
+
+// Nothing is read yet.
+pub fn unread() -> Scan
+    ensures { result ≡ faults.unread }
+{
+    Scan {
+        lines: 0,
+        place: Place::Heading(0),
+        first: 0,
+        second: 0,
+        third: 0,
+    }
+}
+
+// All bytes, one after the other.
+pub fn scan_text(text: &[u8]) -> Scan
+    ensures { result ≡ (faults.read_text text.now).scan }
+{
+    let mut scan = unread();
+    let mut i = 0;
+    while i < text.len() {
+        scan = after(scan, text[i]);
+        i += 1;
+    }
+    scan
+}
+
+// What is wrong where a text ends here; 0 where nothing is.
+fn fault_at(place: Place) -> u32
+    ensures { result ≡ faults.fault_at place }
+{
+    match place {
+        Place::Heading(_) => 47,
+        Place::Due(field) => unless_first(field),
+        Place::Number { field: _, n: _ } => 47,
+        Place::Return => 47,
+        Place::Fault(number) => number,
+    }
+}
+
+fn unless_first(field: u32) -> u32
+    ensures { result ≡ cond (eqb field 0) 0 47 }
+{
+    if field == 0 {
+        return 0;
+    }
+    47
+}
+
+// The line after so many, as far as a place can say.
+fn line_of(lines: u64) -> u32
+    ensures { result ≡ faults.line_of lines }
+{
+    if lines < MOST_LINE {
+        return (lines + 1) as u32;
+    }
+    u32::MAX
+}
+
+// The fault of a text that ends here, and its line.
+pub fn scan_refused(scan: Scan) -> Refusal
+    ensures { result ≡ faults.scan_refused scan }
+{
+    let place = scan.place;
+    let number = fault_at(place);
+    if number == 0 {
+        return tables::none();
+    }
+    Refusal {
+        number,
+        place: line_of(scan.lines),
+        second: 0,
+    }
+}
+
+// How many rows a text has whose so many lines have ended: one of them is the heading.
+pub fn rows_of(lines: u64) -> u64
+    ensures { result ≡ lines - 1 }
+{
+    if lines == 0 {
+        return 0;
+    }
+    lines - 1
+}
+
+// Every row of a text, over the first words of the slices, which have room for all of them.
+pub fn fill(text: &[u8], identifiers: &mut [u32], parents: &mut [u32], shares: &mut [u32])
+    requires { Room text.now (table_of identifiers.old parents.old shares.old) }
+    ensures { table_of identifiers.new parents.new shares.new
+        ≡ table_over (faults.table_in text.now) (table_of identifiers.old parents.old shares.old) }
+{
+    let mut scan = unread();
+    let mut i = 0;
+    while i < text.len() {
+        scan = keep(scan, text[i], identifiers, parents, shares);
+        i += 1;
+    }
+}
+
+// The scan with one byte more; the row that ends with it goes to its place.
+fn keep(
+    scan: Scan,
+    byte: u8,
+    identifiers: &mut [u32],
+    parents: &mut [u32],
+    shares: &mut [u32],
+) -> Scan
+    requires { suc scan.lines < 2 ^ 64 }
+    ensures { (result ≡ faults.after scan byte)
+        × (table_of identifiers.new parents.new shares.new
+        ≡ keeping scan byte (table_of identifiers.old parents.old shares.old)) }
+{
+    let next = after(scan, byte);
+    if scan.lines == 0 {
+        return next;
+    }
+    if scan.lines < next.lines {
+        let row = (scan.lines - 1) as usize;
+        store(identifiers, row, scan.first);
+        store(parents, row, scan.second);
+        store(shares, row, scan.third);
+    }
+    next
+}
+
+// The number at its place, where the slice has it.
+fn store(words: &mut [u32], place: usize, n: u32)
+    ensures { words.new ≡ set words.old place n }
+{
+    if place < words.len() {
+        words[place] = n;
+    }
+}

@@ -1,0 +1,15 @@
+-- `hierarchy::arrive` meets its contract: where the class has no head, it gets one.
+-- Assumes nothing.
+use mathlib.Core.Path.{sym, ◌∙◌}
+use native.Mathlib.Numerals.{add-one}
+use borrow.Author.Rules.{rules}
+use Rattle.hierarchy.specs.Climbing.{front_rows, front_row}
+use Rattle.hierarchy.proofs.arrive.Goals as goal
+
+pub returns-then-has_head : goal.returns-then-has_head
+unfolding front_rows front_row
+returns-then-has_head c = let has = sym c.has_head.ensures ∙ c.if-has_head.true in record { value = rw has; by_index = λ rows ids depths. rw has }
+
+pub returns : goal.returns
+unfolding front_rows front_row
+returns c = let none = sym c.has_head.ensures ∙ c.if-has_head.false in record { value = rw none; by_index = λ rows ids depths. rw (none, ← add-one c.args.place) (c.new_head.ensures rows ids depths) }

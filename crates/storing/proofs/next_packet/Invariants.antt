@@ -1,0 +1,18 @@
+-- `next_packet` meets its contract: what remains to be looked through has the same queue.
+-- Assumes nothing.
+use Prim.Native.Nat.{◌-◌}
+use mathlib.Core.Path.{◌≡◌, refl, sym, ◌∙◌}
+use native.Mathlib.Numerals.{add-one}
+use lib.ListN.{drop}
+use Rattle.live_rules.specs.State.{packets_at, queue}
+use Rattle.hierarchy.specs.Next.{next_of}
+use Rattle.storing.proofs.Packets.{next_here, next_later, next_none, next_word, worded_in}
+use native.Mathlib.Omega.{arith}
+use borrow.Author.Rules.{rules}
+use Rattle.storing.proofs.next_packet.Given as goal
+
+abbrev pub invariant-loop-i : goal.invariant-loop-i
+invariant-loop-i l = (queue (drop l.i (packets_at l.m l.state)) l.class ≡ queue (drop l.from (packets_at l.m l.state)) l.class)
+
+abbrev pub decreases-loop-i : goal.decreases-loop-i
+decreases-loop-i l = l.m - l.i

@@ -1,0 +1,18 @@
+-- `put_packet` meets its contract: a word more in each of the three lists.
+-- Assumes nothing.
+use lib.ListN.{length-set}
+use Rattle.storing.proofs.Packets.{packets_joined}
+use native.Mathlib.Omega.{arith}
+use borrow.Author.Rules.{rules}
+use Rattle.storing.proofs.put_packet.Goals as goal
+
+pub bounds-state-m-2 : goal.bounds-state-m-2
+bounds-state-m-2 c = simp length-set (omega arith)
+
+pub bounds-state-m-3 : goal.bounds-state-m-3
+bounds-state-m-3 c = simp (length-set, length-set) (omega arith)
+
+pub returns : goal.returns
+returns c = let s = c.args in record { state_after = λ packets same.
+          rw (← same, c.counted.ensures, c.long.ensures.0, c.long-2.ensures.0)
+          (packets_joined s.m s.state.now (omega arith) (omega arith) (record { class = s.class; length = s.size; name = s.name })); state_unchanged = simp length-set }

@@ -1,0 +1,20 @@
+-- `store_counts` meets its contract: four lists, one after the other.
+-- Assumes nothing.
+use mathlib.Core.Path.{◌∙◌}
+use Rattle.live_rules.specs.State.{counts_stored}
+use borrow.Author.Rules.{rules}
+use Rattle.storing.proofs.store_counts.Goals as goal
+
+pub returns : goal.returns
+unfolding counts_stored
+returns c = record { state_after = λ live bytes held since parent_since.
+          rw (
+            bytes,
+            held,
+            since,
+            parent_since,
+            c.store_longs-3.ensures.state_after,
+            c.store_longs-2.ensures.state_after,
+            c.store_words_lem.ensures.0,
+            c.store_longs.ensures.state_after,
+          ); state_unchanged = c.store_longs-3.ensures.state_unchanged ∙ c.store_longs-2.ensures.state_unchanged ∙ c.store_words_lem.ensures.1 ∙ c.store_longs.ensures.state_unchanged }

@@ -1,0 +1,16 @@
+-- `store_longs` meets its contract: a row more at each turn.
+-- Assumes nothing.
+use Prim.Native.Nat.{◌-◌, ◌≤◌}
+use mathlib.Core.Path.{◌≡◌, refl}
+use lib.ListN.{length, length-set}
+use Rattle.live_rules.specs.State.{rows_stored}
+use Rattle.storing.proofs.Turns.{written_none, written_turn}
+use native.Mathlib.Omega.{arith}
+use borrow.Author.Rules.{rules}
+use Rattle.storing.proofs.store_longs.Given as goal
+
+abbrev pub invariant-loop-r : goal.invariant-loop-r
+invariant-loop-r l = (l.r ≤ l.n) × (l.state ≡ rows_stored l.at l.r l.list l.initial.state) × (length l.state ≡ length l.initial.state)
+
+abbrev pub decreases-loop-r : goal.decreases-loop-r
+decreases-loop-r l = l.n - l.r

@@ -1,0 +1,10 @@
+-- `store_tree` meets its contract: four lists, one after the other.
+-- Assumes nothing.
+use mathlib.Core.Path.{◌∙◌}
+use Rattle.live_rules.specs.State.{tree_stored}
+use borrow.Author.Rules.{rules}
+use Rattle.storing.proofs.store_tree.Goals as goal
+
+pub returns : goal.returns
+unfolding tree_stored
+returns c = record { state_after = rw (c.store_words-4.ensures.state_after, c.store_words-3.ensures.state_after, c.store_words-2.ensures.state_after, c.store_words_lem.ensures.0); state_unchanged = c.store_words-4.ensures.state_unchanged ∙ c.store_words-3.ensures.state_unchanged ∙ c.store_words-2.ensures.state_unchanged ∙ c.store_words_lem.ensures.1 }
