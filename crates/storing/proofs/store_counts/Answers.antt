@@ -15,6 +15,6 @@ returns c = record { state_after = λ live bytes held since parent_since.
             parent_since,
             c.store_longs-3.ensures.state_after,
             c.store_longs-2.ensures.state_after,
-            c.store_words_lem.ensures.0,
+            c.store_words.ensures.state_after,
             c.store_longs.ensures.state_after,
-          ); state_unchanged = c.store_longs-3.ensures.state_unchanged ∙ c.store_longs-2.ensures.state_unchanged ∙ c.store_words_lem.ensures.1 ∙ c.store_longs.ensures.state_unchanged }
+          ); state_unchanged = c.store_longs-3.ensures.state_unchanged ∙ c.store_longs-2.ensures.state_unchanged ∙ c.store_words.ensures.state_unchanged ∙ c.store_longs.ensures.state_unchanged }

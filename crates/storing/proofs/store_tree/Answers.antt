@@ -7,4 +7,4 @@ use Rattle.storing.proofs.store_tree.Goals as goal
 
 pub returns : goal.returns
 unfolding tree_stored
-returns c = record { state_after = rw (c.store_words-4.ensures.state_after, c.store_words-3.ensures.state_after, c.store_words-2.ensures.state_after, c.store_words_lem.ensures.0); state_unchanged = c.store_words-4.ensures.state_unchanged ∙ c.store_words-3.ensures.state_unchanged ∙ c.store_words-2.ensures.state_unchanged ∙ c.store_words_lem.ensures.1 }
+returns c = record { state_after = rw (c.store_words-4.ensures.state_after, c.store_words-3.ensures.state_after, c.store_words-2.ensures.state_after, c.store_words.ensures.state_after); state_unchanged = c.store_words-4.ensures.state_unchanged ∙ c.store_words-3.ensures.state_unchanged ∙ c.store_words-2.ensures.state_unchanged ∙ c.store_words.ensures.state_unchanged }

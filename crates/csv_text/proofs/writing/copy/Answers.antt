@@ -16,9 +16,9 @@ loop-i-init c = (search rules, refl, refl)
 
 pub loop-i-preserved : goal.loop-i-preserved
 loop-i-preserved c =
-    let start = at in (
+    (
       search rules,
-      copy_turn start.args.bytes.now start.args.lent.now c.loop-i.lent c.loop-i.i (omega arith) (omega (arith, start.requires)) c.loop-i.invariant.1,
+      copy_turn c.args.bytes.now c.args.lent.now c.loop-i.lent c.loop-i.i (omega arith) (omega (arith, c.requires)) c.loop-i.invariant.1,
       simp length-set c.loop-i.invariant.2,
     )
 

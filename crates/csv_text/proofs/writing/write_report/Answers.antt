@@ -18,7 +18,7 @@ returns-then-text-used c =
     let args = c.args in
     let lent = args.text.now in
     let fits = rw c.report_refused-unfit.ensures at c.if-unfit-ne0.false in
-    let held = report_held args.identifiers.now args.report.now args.lags.now lent fits c.put_report-used.new.0 _ c.put_report-used.ensures in
+    let held = report_held args.identifiers.now args.report.now args.lags.now lent fits c.put_report-used.new.page _ c.put_report-used.ensures in
     rw (c.answer-then-text-used.ensures, c.refusal.ensures)
     (sym (report_short args.identifiers.now args.report.now args.lags.now lent fits (omega (arith, held.long))))
 
@@ -27,7 +27,7 @@ slice_bounds-page-end c =
     let args = c.args in
     let lent = args.text.now in
     let fits = rw c.report_refused-unfit.ensures at c.if-unfit-ne0.false in
-    let held = report_held args.identifiers.now args.report.now args.lags.now lent fits c.put_report-used.new.0 _ c.put_report-used.ensures in
+    let held = report_held args.identifiers.now args.report.now args.lags.now lent fits c.put_report-used.new.page _ c.put_report-used.ensures in
     held.within
 
 pub slice_bounds-copy-end : goal.slice_bounds-copy-end
@@ -35,7 +35,7 @@ slice_bounds-copy-end c =
     let args = c.args in
     let lent = args.text.now in
     let fits = rw c.report_refused-unfit.ensures at c.if-unfit-ne0.false in
-    let held = report_held args.identifiers.now args.report.now args.lags.now lent fits c.put_report-used.new.0 _ c.put_report-used.ensures in
+    let held = report_held args.identifiers.now args.report.now args.lags.now lent fits c.put_report-used.new.page _ c.put_report-used.ensures in
     rw held.begun held.long
 
 pub copy-requires : goal.copy-requires
@@ -43,7 +43,7 @@ copy-requires c =
     let args = c.args in
     let lent = args.text.now in
     let fits = rw c.report_refused-unfit.ensures at c.if-unfit-ne0.false in
-    let held = report_held args.identifiers.now args.report.now args.lags.now lent fits c.put_report-used.new.0 _ c.put_report-used.ensures in
+    let held = report_held args.identifiers.now args.report.now args.lags.now lent fits c.put_report-used.new.page _ c.put_report-used.ensures in
     rw held.begun (omega (arith, held.long))
 
 pub overflow_cast-used : goal.overflow_cast-used
@@ -51,7 +51,7 @@ overflow_cast-used c =
     let args = c.args in
     let lent = args.text.now in
     let fits = rw c.report_refused-unfit.ensures at c.if-unfit-ne0.false in
-    let held = report_held args.identifiers.now args.report.now args.lags.now lent fits c.put_report-used.new.0 _ c.put_report-used.ensures in
+    let held = report_held args.identifiers.now args.report.now args.lags.now lent fits c.put_report-used.new.page _ c.put_report-used.ensures in
     record { fits = omega (arith, held.short) }
 
 pub returns : goal.returns

@@ -30,7 +30,7 @@ returns-then-text-size c =
     let t = table in
     let lent = c.args.text.now in
     let fits = rw (c.rows_refused-counted.ensures t refl refl refl) at c.if-counted-ne0.false in
-    let held = table_held t lent fits c.put_table-size.new.0 c.put_table-size.result c.put_table-size.ensures in
+    let held = table_held t lent fits c.put_table-size.new.page c.put_table-size.result c.put_table-size.ensures in
     rw (c.answer-then-text-size.ensures, c.refusal.ensures) (sym (table_short t lent fits (omega (arith, held.long))))
 
 pub returns-then-refusal-ne0 : goal.returns-then-refusal-ne0
@@ -39,7 +39,7 @@ returns-then-refusal-ne0 c =
     let t = table in
     let lent = c.args.text.now in
     let fits = rw (c.rows_refused-counted.ensures t refl refl refl) at c.if-counted-ne0.false in
-    let held = table_held t lent fits c.put_table-size.new.0 c.put_table-size.result c.put_table-size.ensures in
+    let held = table_held t lent fits c.put_table-size.new.page c.put_table-size.result c.put_table-size.ensures in
     let said = ap (λ (r : Reading). r.refusal) c.read_table-reading.ensures ∙ table_said t fits in
     rw (c.answer-then-refusal-ne0.ensures, said) (sym (table_faulty t lent fits (omega (arith, held.long)) (rw said at c.if-refusal-ne0.true)))
 
@@ -49,7 +49,7 @@ slice_bounds-page-end c =
     let t = table in
     let lent = c.args.text.now in
     let fits = rw (c.rows_refused-counted.ensures t refl refl refl) at c.if-counted-ne0.false in
-    let held = table_held t lent fits c.put_table-size.new.0 c.put_table-size.result c.put_table-size.ensures in
+    let held = table_held t lent fits c.put_table-size.new.page c.put_table-size.result c.put_table-size.ensures in
     held.within
 
 pub slice_bounds-copy-end : goal.slice_bounds-copy-end
@@ -58,7 +58,7 @@ slice_bounds-copy-end c =
     let t = table in
     let lent = c.args.text.now in
     let fits = rw (c.rows_refused-counted.ensures t refl refl refl) at c.if-counted-ne0.false in
-    let held = table_held t lent fits c.put_table-size.new.0 c.put_table-size.result c.put_table-size.ensures in
+    let held = table_held t lent fits c.put_table-size.new.page c.put_table-size.result c.put_table-size.ensures in
     rw held.begun held.long
 
 pub copy-requires : goal.copy-requires
@@ -67,7 +67,7 @@ copy-requires c =
     let t = table in
     let lent = c.args.text.now in
     let fits = rw (c.rows_refused-counted.ensures t refl refl refl) at c.if-counted-ne0.false in
-    let held = table_held t lent fits c.put_table-size.new.0 c.put_table-size.result c.put_table-size.ensures in
+    let held = table_held t lent fits c.put_table-size.new.page c.put_table-size.result c.put_table-size.ensures in
     rw held.begun (omega (arith, held.long))
 
 pub overflow_cast-size : goal.overflow_cast-size
@@ -76,7 +76,7 @@ overflow_cast-size c =
     let t = table in
     let lent = c.args.text.now in
     let fits = rw (c.rows_refused-counted.ensures t refl refl refl) at c.if-counted-ne0.false in
-    let held = table_held t lent fits c.put_table-size.new.0 c.put_table-size.result c.put_table-size.ensures in
+    let held = table_held t lent fits c.put_table-size.new.page c.put_table-size.result c.put_table-size.ensures in
     record { fits = omega (arith, held.short) }
 
 pub returns : goal.returns
