@@ -1,0 +1,78 @@
+-- `marginlilac::run_written` meets its contract: what the run left in the arrays, written over the lent bytes.
+-- Assumes nothing.
+use Prim.Native.Nat.{ℕ, ◌*◌, ◌/◌, ◌≤◌}
+use mathlib.Core.Path.{◌≡◌}
+use mathlib.Core.Logic.{◌≢◌}
+use native.Mathlib.Omega.{arith}
+use lib.ListN.{length, length-replicate}
+use lib.IntN.{pos}
+use borrow.Author.Rules.{rules}
+use Rattle.input.specs.declared.Answer.{Answer}
+use Rattle.input.specs.Limits.{most_rows, most_events, report_words}
+use Rattle.rules.specs.Outcome.{outcome}
+use Rattle.marginlilac.specs.Exported.{LentBytes, lent_bytes, left_bytes, words_lent, bytes_left, answer_bytes}
+use Rattle.marginlilac.proofs.Writing.{Fitting, held, run_refused, run_fits, run_done}
+use Rattle.marginlilac.proofs.run_written.Goals as goal
+
+-- ── what is lent, and what the run leaves ──
+
+pub run_read-r-requires : goal.run_read-r-requires
+run_read-r-requires c =
+    let lent : LentBytes = lent_bytes c.args.identifiers.now c.args.parents.now c.args.shares.now c.args.classes.now c.args.lengths.now c.args.order.now
+    c.args.report.now c.args.lags.now c.args.working.now c.args.answer.now in held lent c.requires
+
+pub returns-then-r-ne0 : goal.returns-then-r-ne0
+unfolding words_lent
+returns-then-r-ne0 c =
+    let lent : LentBytes = lent_bytes c.args.identifiers.now c.args.parents.now c.args.shares.now c.args.classes.now c.args.lengths.now c.args.order.now
+    c.args.report.now c.args.lags.now c.args.working.now c.args.answer.now in
+    let r : Answer = c.run_read-r.result in
+    let refused_left : r.number ≢ 0
+    → left_bytes r.number lent.order lent.report lent.lags lent.working (answer_bytes r) ≡ bytes_left (outcome (words_lent lent)) = λ some. run_refused lent c.requires r _ _ _ _ c.run_read-r.ensures some in
+    rw c.write_answer.ensures (refused_left c.if-r-ne0.true)
+
+pub write_words-requires : goal.write_words-requires
+write_words-requires c =
+    let lent : LentBytes = lent_bytes c.args.identifiers.now c.args.parents.now c.args.shares.now c.args.classes.now c.args.lengths.now c.args.order.now
+    c.args.report.now c.args.lags.now c.args.working.now c.args.answer.now in
+    let r : Answer = c.run_read-r.result in
+    let done : Fitting lent r.count = fits c c.if-r-ne0.false in let room = done in let count = c.wide.ensures.0 in let size = c.run_read-r.auto.order in record { fact_1 = omega (arith, length-replicate {A = ℕ} most_events 0); fact_2 = omega arith }
+
+pub overflow_mul-rows : goal.overflow_mul-rows
+overflow_mul-rows c =
+    let lent : LentBytes = lent_bytes c.args.identifiers.now c.args.parents.now c.args.shares.now c.args.classes.now c.args.lengths.now c.args.order.now
+    c.args.report.now c.args.lags.now c.args.working.now c.args.answer.now in
+    let few_rows : length c.args.identifiers.now / 4 ≤ most_rows = (held lent c.requires).few_rows in let few = few_rows in record { fits = omega arith }
+
+pub write_longs-requires : goal.write_longs-requires
+write_longs-requires c =
+    let lent : LentBytes = lent_bytes c.args.identifiers.now c.args.parents.now c.args.shares.now c.args.classes.now c.args.lengths.now c.args.order.now
+    c.args.report.now c.args.lags.now c.args.working.now c.args.answer.now in
+    let r : Answer = c.run_read-r.result in
+    let done : Fitting lent r.count = fits c c.if-r-ne0.false in
+    let few_rows : length c.args.identifiers.now / 4 ≤ most_rows = (held lent c.requires).few_rows in let few = few_rows in let room = done in let size = c.run_read-r.auto.report in record { fact_1 = omega (arith, length-replicate {A = ℕ} (report_words * most_rows) 0); fact_2 = omega arith }
+
+pub write_signed-requires : goal.write_signed-requires
+write_signed-requires c =
+    let lent : LentBytes = lent_bytes c.args.identifiers.now c.args.parents.now c.args.shares.now c.args.classes.now c.args.lengths.now c.args.order.now
+    c.args.report.now c.args.lags.now c.args.working.now c.args.answer.now in
+    let r : Answer = c.run_read-r.result in
+    let done : Fitting lent r.count = fits c c.if-r-ne0.false in
+    let few_rows : length c.args.identifiers.now / 4 ≤ most_rows = (held lent c.requires).few_rows in let few = few_rows in let room = done in let size = c.run_read-r.auto.lags in record { fact_1 = omega (arith, length-replicate most_rows (pos 0)); fact_2 = omega arith }
+
+pub clear-requires : goal.clear-requires
+clear-requires c =
+    let lent : LentBytes = lent_bytes c.args.identifiers.now c.args.parents.now c.args.shares.now c.args.classes.now c.args.lengths.now c.args.order.now
+    c.args.report.now c.args.lags.now c.args.working.now c.args.answer.now in
+    let r : Answer = c.run_read-r.result in
+    let done : Fitting lent r.count = fits c c.if-r-ne0.false in let room = done in omega arith
+
+pub returns : goal.returns
+unfolding words_lent
+returns c =
+    let lent : LentBytes = lent_bytes c.args.identifiers.now c.args.parents.now c.args.shares.now c.args.classes.now c.args.lengths.now c.args.order.now
+    c.args.report.now c.args.lags.now c.args.working.now c.args.answer.now in
+    let r : Answer = c.run_read-r.result in
+    rw c.write_answer.ensures
+    (run_done lent c.requires r _ _ _ _ c.run_read-r.ensures c.if-r-ne0.false _ _ _ _
+    (rw c.wide.ensures.0 at c.write_words.ensures) c.write_longs.ensures c.write_signed.ensures c.clear.ensures)

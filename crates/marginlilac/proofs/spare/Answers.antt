@@ -1,0 +1,10 @@
+-- `marginlilac::spare` meets its contract.
+-- Assumes nothing.
+use native.Mathlib.Omega.{arith}
+use borrow.Author.Rules.{rules}
+use Rattle.marginlilac.specs.Exported.{spare}
+use Rattle.marginlilac.proofs.spare.Goals as goal
+
+pub returns : goal.returns
+unfolding spare
+returns c = omega arith

@@ -1,0 +1,17 @@
+-- `stopped` meets its contract: the scan is that of the bytes before the fault.
+-- Assumes nothing.
+use Prim.Native.Nat.{◌≤◌, ◌-◌}
+use mathlib.Core.Path.{◌≡◌, ap, ◌∙◌}
+use native.Mathlib.Omega.{arith}
+use lib.ListN.{length, take, length-take}
+use Rattle.forms.specs.declared.Scan.{Scan}
+use Rattle.forms.specs.Faults.{read_text, with_bytes}
+use Rattle.csv_text.proofs.Turns.{lines_most, scan_turn}
+use borrow.Author.Rules.{rules}
+use Rattle.sentences.proofs.faults.stopped.Given as goal
+
+abbrev pub invariant-loop-i : goal.invariant-loop-i
+invariant-loop-i l = (l.i ≤ length l.text) × (l.scan ≡ (read_text (take l.i l.text)).scan)
+
+abbrev pub decreases-loop-i : goal.decreases-loop-i
+decreases-loop-i l = length l.text - l.i
