@@ -92,8 +92,26 @@ pub step-now_sent-requires : goal.step-now_sent-requires
 step-now_sent-requires c =
     let tree : Tree = tree_at c.args.identifiers.now c.args.parents.now c.args.depths.now c.args.shares.now in
     let arrivals : Arrivals = arrivals_with c.args.stamps.now c.args.packet_classes.now c.args.packet_lengths.now in
+    let rows : Rows = rows_of c.args.starts.now c.args.finishes.now c.args.virtuals.now c.args.heads.now c.args.head_lengths.now
+    c.args.head_classes.now in
+    let heaps : Forest = forest c.args.roots.now c.args.left.now c.args.right.now in
+    let ground : Ground tree c.args.identifiers.now c.args.senders.now = c.requires.ground_1 in
+    let stamped : Stamped c.args.stamps.now = c.requires.ground_3 in
+    let room : Roomy c.args.i c.args.working.now c.args.order.now c.args.classes.now c.args.lengths.now = c.requires.ground_4 in
+    let reached : Reached c.args.way tree arrivals c.args.rate c.args.i c.args.arrived c.args.due c.args.sent rows heaps c.args.bytes.now
+    c.args.held.now c.args.since.now c.args.parent_since.now c.args.lasts.now c.args.working.now c.args.classes.now c.args.lengths.now = c.requires.reached in
     let list : Events = listed tree arrivals c.args.rate (suc c.args.i) in
-    (_, c.args.identifiers.now, list.classes, lent_comes c c.if-refusal-ne0.false)
+    let next_is : NextIs c.args.stamps.now c.args.packet_classes.now c.args.packet_lengths.now
+    (progress tree arrivals c.args.rate c.args.i) c.next_event-next.result = c.next_event-next.ensures _ (sym reached.arrived_are) (sym reached.due_is)
+    (idle_is ground stamped room reached) in
+    let met : Meets tree c.args.i c.next_event-next.result.length
+    (decode c.next_event-next.result.class c.next_event-next.result.length) (eqb (head rows 0) 0) c.check_event-check.result = met_as c.decode.ensures (c.check_event-check.ensures tree ground.known) in
+    let same_list : (none : c.check_event-check.result.refusal.number ≡ 0) → events_of list.classes (take (c.args.i + 1) (set c.args.lengths.now c.args.i c.next_event-next.result.length)) ≡ list = λ none. lent_list ground stamped room reached next_is in
+    let lent_comes : (none : c.check_event-check.result.refusal.number ≡ 0) → Coming c.args.way tree
+    (events_of list.classes (take (c.args.i + 1) (set c.args.lengths.now c.args.i c.next_event-next.result.length)))
+    c.args.i c.check_event-check.result.row c.args.sent rows heaps c.args.bytes.now c.args.held.now
+    c.args.since.now c.args.parent_since.now c.args.lasts.now c.args.working.now c.args.order.now = λ none. comes_as (sym (same_list none)) (comes ground stamped room reached next_is met none) in
+    (_, c.args.identifiers.now, list.classes, lent_comes c.if-refusal-ne0.false)
 
 pub arrived_after-requires : goal.arrived_after-requires
 arrived_after-requires c =
@@ -127,8 +145,13 @@ due_after-requires c =
     (idle_is ground stamped room reached) in
     let met : Meets tree c.args.i c.next_event-next.result.length
     (decode c.next_event-next.result.class c.next_event-next.result.length) (eqb (head rows 0) 0) c.check_event-check.result = met_as c.decode.ensures (c.check_event-check.ensures tree ground.known) in
+    let same_list : (none : c.check_event-check.result.refusal.number ≡ 0) → events_of list.classes (take (c.args.i + 1) (set c.args.lengths.now c.args.i c.next_event-next.result.length)) ≡ list = λ none. lent_list ground stamped room reached next_is in
+    let lent_comes : (none : c.check_event-check.result.refusal.number ≡ 0) → Coming c.args.way tree
+    (events_of list.classes (take (c.args.i + 1) (set c.args.lengths.now c.args.i c.next_event-next.result.length)))
+    c.args.i c.check_event-check.result.row c.args.sent rows heaps c.args.bytes.now c.args.held.now
+    c.args.since.now c.args.parent_since.now c.args.lasts.now c.args.working.now c.args.order.now = λ none. comes_as (sym (same_list none)) (comes ground stamped room reached next_is met none) in
     let none = c.if-refusal-ne0.false in
-    let gone = gone_as (same_list c none) (c.step-now_sent.ensures _ c.args.identifiers.now list.classes (lent_comes c none)) in
+    let gone = gone_as (same_list none) (c.step-now_sent.ensures _ c.args.identifiers.now list.classes (lent_comes none)) in
     (omega (arith, moment_low ground stamped room reached next_is, room.events_room), line_length ground stamped room reached next_is met none gone)
 
 pub shape_of-working : goal.shape_of-working
@@ -155,8 +178,13 @@ returns c =
     (idle_is ground stamped room reached) in
     let met : Meets tree c.args.i c.next_event-next.result.length
     (decode c.next_event-next.result.class c.next_event-next.result.length) (eqb (head rows 0) 0) c.check_event-check.result = met_as c.decode.ensures (c.check_event-check.ensures tree ground.known) in
+    let same_list : (none : c.check_event-check.result.refusal.number ≡ 0) → events_of list.classes (take (c.args.i + 1) (set c.args.lengths.now c.args.i c.next_event-next.result.length)) ≡ list = λ none. lent_list ground stamped room reached next_is in
+    let lent_comes : (none : c.check_event-check.result.refusal.number ≡ 0) → Coming c.args.way tree
+    (events_of list.classes (take (c.args.i + 1) (set c.args.lengths.now c.args.i c.next_event-next.result.length)))
+    c.args.i c.check_event-check.result.row c.args.sent rows heaps c.args.bytes.now c.args.held.now
+    c.args.since.now c.args.parent_since.now c.args.lasts.now c.args.working.now c.args.order.now = λ none. comes_as (sym (same_list none)) (comes ground stamped room reached next_is met none) in
     let none = c.if-refusal-ne0.false in
-    let gone = gone_as (same_list c none) (c.step-now_sent.ensures _ c.args.identifiers.now list.classes (lent_comes c none)) in
+    let gone = gone_as (same_list none) (c.step-now_sent.ensures _ c.args.identifiers.now list.classes (lent_comes none)) in
     record {
       refusal_is = refusal_is ground stamped room reached next_is met;
       reached = λ fine.

@@ -32,11 +32,13 @@ returns-then-r-ne0 c =
     rw c.write_answer.ensures (refused_left c.if-r-ne0.true)
 
 pub write_words-requires : goal.write_words-requires
+unfolding words_lent
 write_words-requires c =
     let lent : LentBytes = lent_bytes c.args.identifiers.now c.args.parents.now c.args.shares.now c.args.classes.now c.args.lengths.now c.args.order.now
     c.args.report.now c.args.lags.now c.args.working.now c.args.answer.now in
     let r : Answer = c.run_read-r.result in
-    let done : Fitting lent r.count = fits c c.if-r-ne0.false in let room = done in let count = c.wide.ensures.0 in let size = c.run_read-r.auto.order in record { fact_1 = omega (arith, length-replicate {A = ℕ} most_events 0); fact_2 = omega arith }
+    let fits : (none : r.number ≡ 0) → Fitting lent r.count = λ none. run_fits lent c.requires r _ _ _ _ c.run_read-r.ensures none in
+    let done : Fitting lent r.count = fits c.if-r-ne0.false in let room = done in let count = c.wide.ensures.0 in let size = c.run_read-r.auto.order in record { fact_1 = omega (arith, length-replicate {A = ℕ} most_events 0); fact_2 = omega arith }
 
 pub overflow_mul-rows : goal.overflow_mul-rows
 overflow_mul-rows c =
@@ -45,27 +47,33 @@ overflow_mul-rows c =
     let few_rows : length c.args.identifiers.now / 4 ≤ most_rows = (held lent c.requires).few_rows in let few = few_rows in record { fits = omega arith }
 
 pub write_longs-requires : goal.write_longs-requires
+unfolding words_lent
 write_longs-requires c =
     let lent : LentBytes = lent_bytes c.args.identifiers.now c.args.parents.now c.args.shares.now c.args.classes.now c.args.lengths.now c.args.order.now
     c.args.report.now c.args.lags.now c.args.working.now c.args.answer.now in
     let r : Answer = c.run_read-r.result in
-    let done : Fitting lent r.count = fits c c.if-r-ne0.false in
+    let fits : (none : r.number ≡ 0) → Fitting lent r.count = λ none. run_fits lent c.requires r _ _ _ _ c.run_read-r.ensures none in
+    let done : Fitting lent r.count = fits c.if-r-ne0.false in
     let few_rows : length c.args.identifiers.now / 4 ≤ most_rows = (held lent c.requires).few_rows in let few = few_rows in let room = done in let size = c.run_read-r.auto.report in record { fact_1 = omega (arith, length-replicate {A = ℕ} (report_words * most_rows) 0); fact_2 = omega arith }
 
 pub write_signed-requires : goal.write_signed-requires
+unfolding words_lent
 write_signed-requires c =
     let lent : LentBytes = lent_bytes c.args.identifiers.now c.args.parents.now c.args.shares.now c.args.classes.now c.args.lengths.now c.args.order.now
     c.args.report.now c.args.lags.now c.args.working.now c.args.answer.now in
     let r : Answer = c.run_read-r.result in
-    let done : Fitting lent r.count = fits c c.if-r-ne0.false in
+    let fits : (none : r.number ≡ 0) → Fitting lent r.count = λ none. run_fits lent c.requires r _ _ _ _ c.run_read-r.ensures none in
+    let done : Fitting lent r.count = fits c.if-r-ne0.false in
     let few_rows : length c.args.identifiers.now / 4 ≤ most_rows = (held lent c.requires).few_rows in let few = few_rows in let room = done in let size = c.run_read-r.auto.lags in record { fact_1 = omega (arith, length-replicate most_rows (pos 0)); fact_2 = omega arith }
 
 pub clear-requires : goal.clear-requires
+unfolding words_lent
 clear-requires c =
     let lent : LentBytes = lent_bytes c.args.identifiers.now c.args.parents.now c.args.shares.now c.args.classes.now c.args.lengths.now c.args.order.now
     c.args.report.now c.args.lags.now c.args.working.now c.args.answer.now in
     let r : Answer = c.run_read-r.result in
-    let done : Fitting lent r.count = fits c c.if-r-ne0.false in let room = done in omega arith
+    let fits : (none : r.number ≡ 0) → Fitting lent r.count = λ none. run_fits lent c.requires r _ _ _ _ c.run_read-r.ensures none in
+    let done : Fitting lent r.count = fits c.if-r-ne0.false in let room = done in omega arith
 
 pub returns : goal.returns
 unfolding words_lent

@@ -30,30 +30,30 @@ returns-then-not-opened c =
     let a = c.args in
     ap (λ (answer : LiveAnswer). left_of answer words) c.refusing-then-not-opened.ensures
     ∙ unsound_left words a.class a.length room c.refusal-then-not-opened.result c.refusal-then-not-opened.ensures
-    (sym c.«open».ensures.0 ∙ not-true c.«open».result.sound c.if-not-opened.true)
+    (sym c.open-opened.ensures.0 ∙ (not-true _ c.if-not-opened.true))
 
 pub arrival-requires : goal.arrival-requires
 arrival-requires c =
     let words : List ℕ = c.args.state.now in
     let room : state_words ≤ length words = omega (arith, c.if-state-lt-STATE_WORDS.false) in
-    let read_sound : c.«open».result.sound ≡ true = not-false c.«open».result.sound c.if-not-opened.false in
-    let is_sound : sound (live_in words) ≡ true = sym c.«open».ensures.0 ∙ read_sound in
-    let read : Read words c.«open».result = record { long = room; is_sound = is_sound; opened = c.«open».ensures.1 read_sound } in read
+    let read_sound : c.open-opened.result.sound ≡ true = (not-false _ c.if-not-opened.false) in
+    let is_sound : sound (live_in words) ≡ true = sym c.open-opened.ensures.0 ∙ read_sound in
+    let read : Read words c.open-opened.result = record { long = room; is_sound = is_sound; opened = c.open-opened.ensures.1 read_sound } in read
 
 pub finish-requires : goal.finish-requires
 finish-requires c =
     let words : List ℕ = c.args.state.now in
     let room : state_words ≤ length words = omega (arith, c.if-state-lt-STATE_WORDS.false) in
-    let read_sound : c.«open».result.sound ≡ true = not-false c.«open».result.sound c.if-not-opened.false in
-    let is_sound : sound (live_in words) ≡ true = sym c.«open».ensures.0 ∙ read_sound in
-    let read : Read words c.«open».result = record { long = room; is_sound = is_sound; opened = c.«open».ensures.1 read_sound } in read
+    let read_sound : c.open-opened.result.sound ≡ true = (not-false _ c.if-not-opened.false) in
+    let is_sound : sound (live_in words) ≡ true = sym c.open-opened.ensures.0 ∙ read_sound in
+    let read : Read words c.open-opened.result = record { long = room; is_sound = is_sound; opened = c.open-opened.ensures.1 read_sound } in read
 
 pub returns-in-Arrival : goal.returns-in-Arrival
 returns-in-Arrival c =
     let words : List ℕ = c.args.state.now in
     let room : state_words ≤ length words = omega (arith, c.if-state-lt-STATE_WORDS.false) in
-    let read_sound : c.«open».result.sound ≡ true = not-false c.«open».result.sound c.if-not-opened.false in
-    let is_sound : sound (live_in words) ≡ true = sym c.«open».ensures.0 ∙ read_sound in
+    let read_sound : c.open-opened.result.sound ≡ true = (not-false _ c.if-not-opened.false) in
+    let is_sound : sound (live_in words) ≡ true = sym c.open-opened.ensures.0 ∙ read_sound in
     let a = c.args in
     let decoded = c.decode in
     c.arrival.ensures
@@ -64,8 +64,8 @@ pub returns-in-Finish : goal.returns-in-Finish
 returns-in-Finish c =
     let words : List ℕ = c.args.state.now in
     let room : state_words ≤ length words = omega (arith, c.if-state-lt-STATE_WORDS.false) in
-    let read_sound : c.«open».result.sound ≡ true = not-false c.«open».result.sound c.if-not-opened.false in
-    let is_sound : sound (live_in words) ≡ true = sym c.«open».ensures.0 ∙ read_sound in
+    let read_sound : c.open-opened.result.sound ≡ true = (not-false _ c.if-not-opened.false) in
+    let is_sound : sound (live_in words) ≡ true = sym c.open-opened.ensures.0 ∙ read_sound in
     let a = c.args in
     let decoded = c.decode in
     c.finish.ensures

@@ -38,7 +38,7 @@ returns-then-not-opened c =
     let room : short words report_lent lags_lent ≡ false = sym c.too_short.ensures ∙ c.if-too_short.false in
     rw c.refusing-then-not-opened.ensures
     (unsound_left words report_lent lags_lent room c.refusal-then-not-opened.result c.refusal-then-not-opened.ensures
-    (sym c.«open».ensures.0 ∙ not-true c.«open».result.sound c.if-not-opened.true))
+    (sym c.open-opened.ensures.0 ∙ (not-true _ c.if-not-opened.true)))
 
 pub tell-requires : goal.tell-requires
 tell-requires c =
@@ -46,9 +46,9 @@ tell-requires c =
     let report_lent : List ℕ = c.args.report.now in
     let lags_lent : List ℤ = c.args.lags.now in
     let room : short words report_lent lags_lent ≡ false = sym c.too_short.ensures ∙ c.if-too_short.false in
-    let read_sound : c.«open».result.sound ≡ true = not-false c.«open».result.sound c.if-not-opened.false in
-    let is_sound : sound (live_in words) ≡ true = sym c.«open».ensures.0 ∙ read_sound in
-    let opened : Opened (live_in words) c.«open».result = c.«open».ensures.1 read_sound in let at = state_room words report_lent lags_lent room in record { fact_1 = tellable (live_in words) c.«open».result opened (holds_in words at is_sound); fact_2 = report_room words report_lent lags_lent room; fact_3 = lags_room words report_lent lags_lent room }
+    let read_sound : c.open-opened.result.sound ≡ true = (not-false _ c.if-not-opened.false) in
+    let is_sound : sound (live_in words) ≡ true = sym c.open-opened.ensures.0 ∙ read_sound in
+    let opened : Opened (live_in words) c.open-opened.result = c.open-opened.ensures.1 read_sound in let at = state_room words report_lent lags_lent room in record { fact_1 = tellable (live_in words) c.open-opened.result opened (holds_in words at is_sound); fact_2 = report_room words report_lent lags_lent room; fact_3 = lags_room words report_lent lags_lent room }
 
 pub returns : goal.returns
 returns c =
@@ -56,8 +56,8 @@ returns c =
     let report_lent : List ℕ = c.args.report.now in
     let lags_lent : List ℤ = c.args.lags.now in
     let room : short words report_lent lags_lent ≡ false = sym c.too_short.ensures ∙ c.if-too_short.false in
-    let read_sound : c.«open».result.sound ≡ true = not-false c.«open».result.sound c.if-not-opened.false in
-    let is_sound : sound (live_in words) ≡ true = sym c.«open».ensures.0 ∙ read_sound in
-    let opened : Opened (live_in words) c.«open».result = c.«open».ensures.1 read_sound in
+    let read_sound : c.open-opened.result.sound ≡ true = (not-false _ c.if-not-opened.false) in
+    let is_sound : sound (live_in words) ≡ true = sym c.open-opened.ensures.0 ∙ read_sound in
+    let opened : Opened (live_in words) c.open-opened.result = c.open-opened.ensures.1 read_sound in
     rw c.done.ensures
     (written_left words report_lent lags_lent room _ _ is_sound (c.tell.ensures (live_in words) opened))
