@@ -90,8 +90,8 @@ fn run_list(
     lags: &mut [i64],
     working: &mut [u32],
 ) -> Answer
-    requires fact_1 { lists.length list_classes.now ≤ lists.length classes.old }
-    requires fact_2 { lists.length list_lengths.now ≤ lists.length lengths.old }
+    requires classes_room { lists.length list_classes.now ≤ lists.length classes.old }
+    requires lengths_room { lists.length list_lengths.now ≤ lists.length lengths.old }
     ensures { Replayed
         (lent_of identifiers.now parent_identifiers.now shares.now list_classes.now list_lengths.now
         order.old report.old lags.old working.old)
@@ -134,12 +134,12 @@ fn replay_packets(
     lags: &mut [i64],
     working: &mut [u32],
 ) -> Answer
-    requires fact_1 { Stamped stamps.now }
-    requires fact_2 { (lengths_refused (table_of identifiers.now parent_identifiers.now shares.now)
+    requires stamped { Stamped stamps.now }
+    requires lengths_fine { (lengths_refused (table_of identifiers.now parent_identifiers.now shares.now)
         (list_of (tree_of (table_of identifiers.now parent_identifiers.now shares.now)) (arrivals_with stamps.now packet_classes.now packet_lengths.now) rate)
         (room_with (lists.length order.old) (lists.length report.old) (lists.length lags.old) (lists.length working.old))).number ≡ 0 }
-    requires fact_3 { 2 * lists.length stamps.now ≤ lists.length classes.old }
-    requires fact_4 { 2 * lists.length stamps.now ≤ lists.length lengths.old }
+    requires classes_room { 2 * lists.length stamps.now ≤ lists.length classes.old }
+    requires lengths_room { 2 * lists.length stamps.now ≤ lists.length lengths.old }
     ensures { Replayed
         (lent_with (table_of identifiers.now parent_identifiers.now shares.now)
         (list_of (tree_of (table_of identifiers.now parent_identifiers.now shares.now)) (arrivals_with stamps.now packet_classes.now packet_lengths.now) rate)

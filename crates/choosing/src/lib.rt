@@ -272,7 +272,7 @@ pub fn chooses(
     why: Why,
     p: usize,
 )
-    requires by_index { (n : ℕ) × (ids : List ℕ) × (depths : List ℕ) × (class_of : ℕ → ℕ)
+    requires chooses { (n : ℕ) × (ids : List ℕ) × (depths : List ℕ) × (class_of : ℕ → ℕ)
         × Chooses way (tree_with n ids parents.now depths shares.now) class_of
         (rows_of starts.old finishes.old virtuals.old heads.old head_lengths.old head_classes.old) p
         (forest roots.old left.old right.old) }

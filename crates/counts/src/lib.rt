@@ -27,8 +27,8 @@ fn begin_at(
     parent_since: &mut RowLongs,
     r: usize,
 )
-    requires fact_1 { r < most_rows }
-    requires fact_2 { At-most (most_rows - 1) parents.now }
+    requires r_is_row { r < most_rows }
+    requires parents_inside { At-most (most_rows - 1) parents.now }
     ensures since_after { since.new ≡ changed (begun held.now (own bytes.now)) r since.old }
     ensures parent_since_after { parent_since.new ≡
         changed (begun held.now (above parents.now bytes.now)) r parent_since.old }
@@ -49,9 +49,9 @@ fn enter_at(
     parent_since: &mut RowLongs,
     r: usize,
 )
-    requires fact_1 { r < most_rows }
-    requires fact_2 { At-most (most_rows - 1) parents.now }
-    requires fact_3 { get_or held.old r 0 ≤ 2 ^ 31 + most_depth }
+    requires r_is_row { r < most_rows }
+    requires parents_inside { At-most (most_rows - 1) parents.now }
+    requires held_small { get_or held.old r 0 ≤ 2 ^ 31 + most_depth }
     ensures held_after { held.new ≡ changed (λ i n. suc n) r held.old }
     ensures since_after { since.new ≡ changed (begun held.old (own bytes.now)) r since.old }
     ensures parent_since_after { parent_since.new ≡
@@ -72,10 +72,10 @@ pub fn enter(
     parent_since: &mut RowLongs,
     k: usize,
 )
-    requires fact_1 { k < most_rows }
-    requires fact_2 { At-most (most_rows - 1) parents.now }
-    requires fact_3 { get_or depths.now k 0 ≤ most_depth }
-    requires fact_4 { At-most (2 ^ 31) held.old }
+    requires k_is_row { k < most_rows }
+    requires parents_inside { At-most (most_rows - 1) parents.now }
+    requires shallow { get_or depths.now k 0 ≤ most_depth }
+    requires held_small { At-most (2 ^ 31) held.old }
     ensures { (tree : Tree) (box : Box) (place size : ℕ) →
         Paths tree parents.now depths.now →
         Counts box bytes.now held.old since.old parent_since.old →
@@ -93,9 +93,9 @@ pub fn enter(
 
 // Row r has finished so many bytes more, and holds one packet less.
 fn leave_at(bytes: &mut RowLongs, held: &mut RowWords, r: usize, length: u64)
-    requires fact_1 { r < most_rows }
-    requires fact_2 { get_or bytes.old r 0 ≤ most_finished + most_depth * 2 ^ 32 }
-    requires fact_3 { length < 2 ^ 32 }
+    requires r_is_row { r < most_rows }
+    requires bytes_small { get_or bytes.old r 0 ≤ most_finished + most_depth * 2 ^ 32 }
+    requires length_small { length < 2 ^ 32 }
     ensures bytes_after { bytes.new ≡ changed (λ i n. n + length) r bytes.old }
     ensures held_after { held.new ≡ changed (λ i n. pred n) r held.old }
 {
@@ -115,10 +115,10 @@ pub fn leave(
     k: usize,
     length: u32,
 )
-    requires fact_1 { k < most_rows }
-    requires fact_2 { At-most (most_rows - 1) parents.now }
-    requires fact_3 { get_or depths.now k 0 ≤ most_depth }
-    requires fact_4 { At-most most_finished bytes.old }
+    requires k_is_row { k < most_rows }
+    requires parents_inside { At-most (most_rows - 1) parents.now }
+    requires shallow { get_or depths.now k 0 ≤ most_depth }
+    requires bytes_small { At-most most_finished bytes.old }
     ensures { (tree : Tree) (box : Box) (since parent_since : List ℕ) →
         Paths tree parents.now depths.now →
         head_class box.rows 0 ≡ k →

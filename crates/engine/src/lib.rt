@@ -51,13 +51,13 @@ fn serve(
     lags: &mut [i64],
     working: &mut [u32],
 ) -> u32
-    requires fit_1 { Fit (tree_at identifiers.now parents.now depths.now shares.now) (events_of classes.now lengths.now) }
-    requires fit_2 { Sending (tree_at identifiers.now parents.now depths.now shares.now) (lists.length identifiers.now) senders.now }
-    requires fit_3 { RowsFor (tree_at identifiers.now parents.now depths.now shares.now) (events_of classes.now lengths.now) event_rows.now }
-    requires fit_4 { lists.length classes.now ≤ lists.length order.old }
-    requires fit_5 { lists.length classes.now ≤ lists.length working.old }
-    requires identifiers_bound_1 { report_words * lists.length identifiers.now ≤ lists.length report.old }
-    requires identifiers_bound_2 { lists.length identifiers.now ≤ lists.length lags.old }
+    requires fit { Fit (tree_at identifiers.now parents.now depths.now shares.now) (events_of classes.now lengths.now) }
+    requires senders_told { Sending (tree_at identifiers.now parents.now depths.now shares.now) (lists.length identifiers.now) senders.now }
+    requires event_rows_told { RowsFor (tree_at identifiers.now parents.now depths.now shares.now) (events_of classes.now lengths.now) event_rows.now }
+    requires order_room { lists.length classes.now ≤ lists.length order.old }
+    requires working_room { lists.length classes.now ≤ lists.length working.old }
+    requires report_room { report_words * lists.length identifiers.now ≤ lists.length report.old }
+    requires lags_room { lists.length identifiers.now ≤ lists.length lags.old }
     ensures { Served (tree_at identifiers.now parents.now depths.now shares.now)
         (events_of classes.now lengths.now) result
         order.old order.new report.old report.new lags.old lags.new

@@ -90,8 +90,8 @@ fn hang(keys: &Keys, ties: &Ties, left: &mut Sides, right: &mut Sides, a: u8, b:
 
 // What a and b have, melded: its root.
 fn meld(keys: &Keys, ties: &Ties, left: &mut Sides, right: &mut Sides, a: u8, b: u8) -> u8
-    ensures value { result ≡ root_of (before keys.now ties.now) a b (links left.old right.old) }
-    ensures right_after { links left.new right.new
+    ensures root { result ≡ root_of (before keys.now ties.now) a b (links left.old right.old) }
+    ensures links_after { links left.new right.new
         ≡ melded (before keys.now ties.now) a b (links left.old right.old) }
 {
     if b == 0 {
@@ -103,9 +103,9 @@ fn meld(keys: &Keys, ties: &Ties, left: &mut Sides, right: &mut Sides, a: u8, b:
 
 // What is on the two sides of k, melded: its root.
 fn meld_below(keys: &Keys, ties: &Ties, left: &mut Sides, right: &mut Sides, k: u8) -> u8
-    ensures value { result ≡ root_of (before keys.now ties.now)
+    ensures root { result ≡ root_of (before keys.now ties.now)
         (get_or left.old k 0) (get_or right.old k 0) (links left.old right.old) }
-    ensures right_after { links left.new right.new
+    ensures links_after { links left.new right.new
         ≡ melded (before keys.now ties.now)
         (get_or left.old k 0) (get_or right.old k 0) (links left.old right.old) }
 {
@@ -144,8 +144,8 @@ pub fn take(
     h: usize,
 ) -> u8
     requires { h < most_heaps }
-    ensures value { result ≡ get_or roots.old h 0 }
-    ensures right_after { forest roots.new left.new right.new
+    ensures root { result ≡ get_or roots.old h 0 }
+    ensures forest_after { forest roots.new left.new right.new
         ≡ parted (before keys.now ties.now) h (forest roots.old left.old right.old) }
 {
     let k = roots[h];

@@ -41,7 +41,7 @@ pub fn up(
     row: usize,
     depth: u32,
 )
-    requires by_index { (n : ℕ) × (ids : List ℕ) × (depths : List ℕ) × (class_of : ℕ → ℕ)
+    requires climbs { (n : ℕ) × (ids : List ℕ) × (depths : List ℕ) × (class_of : ℕ → ℕ)
         × Climbs way (tree_with n ids parents.now depths shares.now) class_of
         (rows_of starts.old finishes.old virtuals.old heads.old head_lengths.old head_classes.old) row depth
         (forest roots.old left.old right.old) }
@@ -176,13 +176,13 @@ pub fn arrive(
     k: usize,
     length: u32,
 ) -> usize
-    requires k_lt_most_rows { k < most_rows }
-    requires place_bound { place + 1 < 2 ^ 32 }
+    requires k_is_row { k < most_rows }
+    requires place_small { place + 1 < 2 ^ 32 }
     requires inside { Inside parents.now }
-    requires length_le_most_bytes { length ≤ most_bytes }
+    requires length_allowed { length ≤ most_bytes }
     requires leeway { Leeway most_charge (rows_of starts.old finishes.old virtuals.now heads.old head_lengths.old head_classes.old) }
-    ensures value { result ≡ front_row heads.old k }
-    ensures by_index { (rows : ℕ) (ids depths : List ℕ)
+    ensures front { result ≡ front_row heads.old k }
+    ensures rows_after { (rows : ℕ) (ids depths : List ℕ)
         → rows_of starts.new finishes.new virtuals.now
         heads.new head_lengths.new head_classes.new
         ≡ front_rows (tree_with rows ids parents.now depths shares.now) place k length

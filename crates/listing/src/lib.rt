@@ -65,10 +65,10 @@ fn take_event(
     due: u64,
     sent: u32,
 ) -> Turn
-    requires ground_1 { Ground (tree_at identifiers.now parents.now depths.now shares.now) identifiers.now senders.now }
-    requires ground_2 { AllFiled identifiers.now on_air_rows.now }
-    requires ground_3 { Stamped stamps.now }
-    requires ground_4 { Roomy i working.old order.old classes.old lengths.old }
+    requires grounded { Ground (tree_at identifiers.now parents.now depths.now shares.now) identifiers.now senders.now }
+    requires filed { AllFiled identifiers.now on_air_rows.now }
+    requires stamped { Stamped stamps.now }
+    requires roomy { Roomy i working.old order.old classes.old lengths.old }
     requires reached { Reached way (tree_at identifiers.now parents.now depths.now shares.now) (arrivals_with stamps.now packet_classes.now packet_lengths.now) rate i arrived due sent
         (rows_of starts.old finishes.old virtuals.old heads.old head_lengths.old head_classes.old) (forest roots.old left.old right.old)
         bytes.old held.old since.old parent_since.old lasts.old working.old classes.old lengths.old }
@@ -157,11 +157,11 @@ pub fn list(
     classes: &mut [u32],
     lengths: &mut [u32],
 ) -> Refusal
-    requires fact_1 { Ground (tree_at identifiers.now parents.now depths.now shares.now) identifiers.now senders.now }
-    requires fact_2 { Stamped stamps.now }
-    requires fact_3 { 2 * lists.length stamps.now ≤ most_events }
-    requires fact_4 { 2 * lists.length stamps.now ≤ lists.length classes.old }
-    requires fact_5 { 2 * lists.length stamps.now ≤ lists.length lengths.old }
+    requires grounded { Ground (tree_at identifiers.now parents.now depths.now shares.now) identifiers.now senders.now }
+    requires stamped { Stamped stamps.now }
+    requires events_few { 2 * lists.length stamps.now ≤ most_events }
+    requires classes_room { 2 * lists.length stamps.now ≤ lists.length classes.old }
+    requires lengths_room { 2 * lists.length stamps.now ≤ lists.length lengths.old }
     ensures { Lists (tree_at identifiers.now parents.now depths.now shares.now) (arrivals_with stamps.now packet_classes.now packet_lengths.now) rate result classes.new lengths.new }
 {
     let on_air_rows = checks::filed(identifiers);

@@ -14,8 +14,8 @@ use live_rules::{LiveAnswer, STATE_WORDS};
 
 // Of each row all that an event can change: zeros.
 fn store_zeros(state: &mut [u64], n: usize)
-    requires fact_1 { n ≤ most_rows }
-    requires fact_2 { state_words ≤ length state.old }
+    requires rows_few { n ≤ most_rows }
+    requires state_room { state_words ≤ length state.old }
     ensures state_after { (table : Table) → state.new ≡ counts_stored n (fresh_live table)
         (heads_stored n (fresh_live table).rows (tags_stored n (fresh_live table).rows state.old)) }
     ensures state_len_unchanged { length state.new ≡ length state.old }
@@ -35,11 +35,11 @@ fn store_fresh(
     depths: &RowWords,
     shares: &RowWords,
 )
-    requires identifiers_len_bound_1 { length identifiers.now ≤ most_rows }
-    requires identifiers_len_bound_2 { state_words ≤ length state.old }
-    requires parents_len_1 { length parents.now ≡ most_rows }
-    requires parents_len_2 { length depths.now ≡ most_rows }
-    requires parents_len_3 { length shares.now ≡ most_rows }
+    requires rows_few { length identifiers.now ≤ most_rows }
+    requires state_room { state_words ≤ length state.old }
+    requires parents_full { length parents.now ≡ most_rows }
+    requires depths_full { length depths.now ≡ most_rows }
+    requires shares_full { length shares.now ≡ most_rows }
     ensures { (table : Table) → table.identifiers ≡ identifiers.now → (tree_of table).parents ≡ parents.now
         → (tree_of table).depths ≡ depths.now → (tree_of table).shares ≡ shares.now
         → state.new ≡ stored (fresh_live table) state.old }

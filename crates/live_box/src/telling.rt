@@ -28,9 +28,9 @@ fn too_short(state: usize, report: usize, lags: usize) -> bool
 
 // The report and the lags of the rows in use; the words after them stay.
 fn tell(state: State, report: &mut [u64], lags: &mut [i64])
-    requires fact_1 { Tellable state }
-    requires fact_2 { report_words * most_rows ≤ length report.old }
-    requires fact_3 { most_rows ≤ length lags.old }
+    requires tellable { Tellable state }
+    requires report_room { report_words * most_rows ≤ length report.old }
+    requires lags_room { most_rows ≤ length lags.old }
     ensures { (live : Live) → Opened live state
         → Written live report.old lags.old report.new lags.new }
 {

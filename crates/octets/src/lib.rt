@@ -84,8 +84,8 @@ fn bits(word: i64) -> u64
 
 // The first n words, over the first bytes, which there are enough of.
 pub fn write_words(words: &[u32], n: usize, bytes: &mut [u8])
-    requires fact_1 { n ≤ length words.now }
-    requires fact_2 { 4 * n ≤ length bytes.old }
+    requires words_enough { n ≤ length words.now }
+    requires bytes_room { 4 * n ≤ length bytes.old }
     ensures { bytes.new ≡ over (bytes_of 4 (take n words.now)) bytes.old }
 {
     let mut i = 0;
@@ -97,8 +97,8 @@ pub fn write_words(words: &[u32], n: usize, bytes: &mut [u8])
 
 // The same for words of eight bytes.
 pub fn write_longs(words: &[u64], n: usize, bytes: &mut [u8])
-    requires fact_1 { n ≤ length words.now }
-    requires fact_2 { 8 * n ≤ length bytes.old }
+    requires words_enough { n ≤ length words.now }
+    requires bytes_room { 8 * n ≤ length bytes.old }
     ensures { bytes.new ≡ over (bytes_of 8 (take n words.now)) bytes.old }
 {
     let mut i = 0;
@@ -110,8 +110,8 @@ pub fn write_longs(words: &[u64], n: usize, bytes: &mut [u8])
 
 // The same for signed words.
 pub fn write_signed(words: &[i64], n: usize, bytes: &mut [u8])
-    requires fact_1 { n ≤ length words.now }
-    requires fact_2 { 8 * n ≤ length bytes.old }
+    requires words_enough { n ≤ length words.now }
+    requires bytes_room { 8 * n ≤ length bytes.old }
     ensures { bytes.new ≡ over (signed_bytes_of (take n words.now)) bytes.old }
 {
     let mut i = 0;

@@ -45,9 +45,9 @@ pub fn join(lasts: &mut RowWords, working: &mut [u32], k: usize, word: u32)
 
 // The first packet leaves the queue of class k: which packet is its next, if it has one.
 pub fn leave_first(lasts: &mut RowWords, working: &[u32], k: usize, first: u32) -> u32
-    requires fact_1 { k < most_rows }
-    requires fact_2 { 0 < first }
-    requires fact_3 { first ≤ lists.length working.now }
+    requires k_is_row { k < most_rows }
+    requires first_some { 0 < first }
+    requires first_inside { first ≤ lists.length working.now }
     ensures value { result ≡ get_or working.now (first - 1) 0 }
     ensures lasts_after { lasts.new ≡ shortened lasts.old k result }
 {
@@ -71,8 +71,8 @@ pub fn length_of(lengths: &[u32], word: u32) -> u32
 
 // The root's head goes on the line if that is idle; so many packets have then gone on it.
 pub fn send(order: &mut [u32], sent: u32, idle: bool, head: u32) -> u32
-    requires fact_1 { sent < lists.length order.old }
-    requires fact_2 { sent < most_events }
+    requires order_room { sent < lists.length order.old }
+    requires events_few { sent < most_events }
     ensures order_after { order.new ≡ sets order.old sent (sent_word idle head) }
     ensures value { result ≡ sent + lists.length (sent_word idle head) }
 {

@@ -21,8 +21,8 @@ fn read_record(
     classes: &mut [u32],
     lengths: &mut [u32],
 )
-    requires fact_1 { (layout ≡ layout_of capture.now) × (at + record_bytes ≤ length capture.now) × (1 < length (packet_at capture.now at)) }
-    requires fact_2 { (k < length stamps.old) × (k < length classes.old) × (k < length lengths.old) }
+    requires in_capture { (layout ≡ layout_of capture.now) × (at + record_bytes ≤ length capture.now) × (1 < length (packet_at capture.now at)) }
+    requires columns_room { (k < length stamps.old) × (k < length classes.old) × (k < length lengths.old) }
     ensures { (stamps.new ≡ set stamps.old k (stamp_at capture.now at))
         × (classes.new ≡ set classes.old k (class_for sorting (code_point (packet_at capture.now at))))
         × (lengths.new ≡ set lengths.old k (field_at capture.now at 12))
@@ -43,8 +43,8 @@ pub fn read(
     classes: &mut [u32],
     lengths: &mut [u32],
 )
-    requires fact_1 { Found capture.now layout records }
-    requires fact_2 { (records ≤ length stamps.old) × (records ≤ length classes.old) × (records ≤ length lengths.old) }
+    requires found { Found capture.now layout records }
+    requires columns_room { (records ≤ length stamps.old) × (records ≤ length classes.old) × (records ≤ length lengths.old) }
     ensures { Reads capture.now sorting (arrivals_with stamps.old classes.old lengths.old)
         (arrivals_with stamps.new classes.new lengths.new) }
 {

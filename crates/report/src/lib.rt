@@ -68,8 +68,8 @@ fn report_row(
     held: &RowWords,
     report: &mut [u64],
 )
-    requires fact_1 { r < most_rows }
-    requires fact_2 { report_words * r + report_words ≤ length report.old }
+    requires r_is_row { r < most_rows }
+    requires report_room { report_words * r + report_words ≤ length report.old }
     ensures { report.new ≡ sets report.old (report_words * r)
         (row_words (get_or senders.now r false) starts.now finishes.now virtuals.now
         bytes.now held.now r) }
@@ -101,9 +101,9 @@ pub fn write_report(
     held: &RowWords,
     report: &mut [u64],
 )
-    requires fact_1 { rows ≤ most_rows }
-    requires fact_2 { report_words * rows ≤ length report.old }
-    requires fact_3 { (0 < rows → get_or senders.now 0 false ≡ false) }
+    requires rows_few { rows ≤ most_rows }
+    requires report_room { report_words * rows ≤ length report.old }
+    requires line_sends_nothing { (0 < rows → get_or senders.now 0 false ≡ false) }
     ensures { (tree : Tree) (box : Box) →
         Sending tree rows senders.now →
         Shown box starts.now finishes.now virtuals.now bytes.now held.now →
@@ -118,9 +118,9 @@ pub fn write_report(
 
 // The lag of a row with this share, when its parent has finished so many bytes in its backlog and it so many itself.
 fn lag_of(share: u64, parent_bytes: u64, own_bytes: u64) -> i64
-    requires fact_1 { share ≤ whole }
-    requires fact_2 { parent_bytes ≤ most_finished }
-    requires fact_3 { own_bytes ≤ most_finished }
+    requires share_allowed { share ≤ whole }
+    requires parent_small { parent_bytes ≤ most_finished }
+    requires own_small { own_bytes ≤ most_finished }
     ensures { result ≡ pos (share * parent_bytes) -ℤ pos (whole * own_bytes) }
 {
     let due = (share * parent_bytes) as i64;
@@ -138,11 +138,11 @@ fn lag_at(
     since: &RowLongs,
     parent_since: &RowLongs,
 ) -> i64
-    requires fact_1 { r < most_rows }
-    requires fact_2 { At-most (most_rows - 1) parents.now }
-    requires fact_3 { At-most whole shares.now }
-    requires fact_4 { At-most most_finished bytes.now }
-    requires fact_5 { Past (suc r) parents.now bytes.now since.now parent_since.now }
+    requires r_is_row { r < most_rows }
+    requires parents_inside { At-most (most_rows - 1) parents.now }
+    requires shares_allowed { At-most whole shares.now }
+    requires bytes_small { At-most most_finished bytes.now }
+    requires past { Past (suc r) parents.now bytes.now since.now parent_since.now }
     ensures { (tree : Tree) (box : Box) →
         Shares tree parents.now shares.now →
         Counts box bytes.now held.now since.now parent_since.now →
@@ -172,12 +172,12 @@ pub fn write_lags(
     parent_since: &RowLongs,
     lags: &mut [i64],
 )
-    requires rows_le_most_rows_1 { rows ≤ most_rows }
-    requires rows_le_most_rows_2 { rows ≤ length lags.old }
-    requires at_most_1 { At-most (most_rows - 1) parents.now }
-    requires at_most_2 { At-most whole shares.now }
-    requires at_most_3 { At-most most_finished bytes.now }
-    requires at_most_4 { Past rows parents.now bytes.now since.now parent_since.now }
+    requires rows_few { rows ≤ most_rows }
+    requires lags_room { rows ≤ length lags.old }
+    requires parents_inside { At-most (most_rows - 1) parents.now }
+    requires shares_allowed { At-most whole shares.now }
+    requires bytes_small { At-most most_finished bytes.now }
+    requires past { Past rows parents.now bytes.now since.now parent_since.now }
     ensures { (tree : Tree) (box : Box) →
         Shares tree parents.now shares.now →
         Counts box bytes.now held.now since.now parent_since.now →

@@ -37,11 +37,11 @@ pub fn met(table: &Seen, x: u32) -> bool
 
 // One is met that was not.
 pub fn meet(table: &mut Seen, x: u32)
-    requires x_le_most_identifier { x ≤ most_identifier }
-    requires table_len { length table.old ≡ bits.table_words }
-    requires x_value { bits.met table.old x ≡ false }
-    ensures by_index { (y : ℕ) → bits.met table.new y ≡ (bits.met table.old y || eqb x y) }
-    ensures table_len_2 { length table.new ≡ bits.table_words }
+    requires identifier_small { x ≤ most_identifier }
+    requires table_full { length table.old ≡ bits.table_words }
+    requires not_met { bits.met table.old x ≡ false }
+    ensures met_after { (y : ℕ) → bits.met table.new y ≡ (bits.met table.old y || eqb x y) }
+    ensures table_stays_full { length table.new ≡ bits.table_words }
 {
     let at = wide(x / WORD_BITS);
     table[at] = with_bit(table[at], x % WORD_BITS);

@@ -34,16 +34,16 @@ pub fn arrive(
     k: usize,
     length: u32,
 ) -> usize
-    requires fact_1 { Ready parents.now depths.now (rows_of starts.old finishes.old virtuals.now heads.old head_lengths.old head_classes.old) bytes.now held.old }
-    requires fact_2 { k < most_rows }
-    requires fact_3 { suc place < 2 ^ 32 }
-    requires fact_4 { length ≤ most_bytes }
-    ensures value { result ≡ front_row heads.old k }
-    ensures by_index { (n : ℕ) (ids : List ℕ)
+    requires ready { Ready parents.now depths.now (rows_of starts.old finishes.old virtuals.now heads.old head_lengths.old head_classes.old) bytes.now held.old }
+    requires k_is_row { k < most_rows }
+    requires place_small { suc place < 2 ^ 32 }
+    requires length_allowed { length ≤ most_bytes }
+    ensures front { result ≡ front_row heads.old k }
+    ensures rows_after { (n : ℕ) (ids : List ℕ)
         → rows_of starts.new finishes.new virtuals.now heads.new head_lengths.new head_classes.new
         ≡ front_rows (tree_with n ids parents.now depths.now shares.now) place k length
         (rows_of starts.old finishes.old virtuals.now heads.old head_lengths.old head_classes.old) }
-    ensures by_index_2 { (n : ℕ) (ids : List ℕ) (box : Box)
+    ensures counts_after { (n : ℕ) (ids : List ℕ) (box : Box)
         → Counts box bytes.now held.old since.old parent_since.old
         → Counts (arrival (tree_with n ids parents.now depths.now shares.now) place k length box)
         bytes.now held.new since.new parent_since.new }
@@ -81,16 +81,16 @@ pub fn depart(
     next: u32,
     length: u32,
 ) -> usize
-    requires fact_1 { Ready parents.now depths.now (rows_of starts.old finishes.old virtuals.now heads.old head_lengths.old head_classes.old) bytes.old held.old }
-    requires fact_2 { get_or head_classes.old 0 0 < most_rows }
-    requires fact_3 { length ≤ most_bytes }
-    ensures value { result ≡ get_or head_classes.old 0 0 }
-    ensures by_index { (n : ℕ) (ids : List ℕ) (later : List Packet) → take 1 later ≡ next_of next length
+    requires ready { Ready parents.now depths.now (rows_of starts.old finishes.old virtuals.now heads.old head_lengths.old head_classes.old) bytes.old held.old }
+    requires class_is_row { get_or head_classes.old 0 0 < most_rows }
+    requires length_allowed { length ≤ most_bytes }
+    ensures class_sent { result ≡ get_or head_classes.old 0 0 }
+    ensures rows_after { (n : ℕ) (ids : List ℕ) (later : List Packet) → take 1 later ≡ next_of next length
         → rows_of starts.new finishes.new virtuals.now heads.new head_lengths.new head_classes.new
         ≡ renews (tree_with n ids parents.now depths.now shares.now) result later
         (leaves (tree_with n ids parents.now depths.now shares.now) result
         (rows_of starts.old finishes.old virtuals.now heads.old head_lengths.old head_classes.old)) }
-    ensures by_index_2 { (n : ℕ) (ids : List ℕ) (box : Box) (since parent_since : List ℕ)
+    ensures counts_after { (n : ℕ) (ids : List ℕ) (box : Box) (since parent_since : List ℕ)
         → box.rows ≡ (rows_of starts.old finishes.old virtuals.now heads.old head_lengths.old head_classes.old)
         → Counts box bytes.old held.old since parent_since
         → Counts (departure (tree_with n ids parents.now depths.now shares.now) box)

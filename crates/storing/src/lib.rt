@@ -26,9 +26,9 @@ use live_rules::{
 
 // The words of the first n rows from a place on, into an array of zeros, which stay for the rows out of use.
 pub fn fill_longs(state: &[u64], at: usize, n: usize, list: &mut RowLongs)
-    requires fact_1 { n ≤ most_rows }
-    requires fact_2 { at + most_rows ≤ lists.length state.now }
-    requires fact_3 { list.old ≡ zeros }
+    requires rows_few { n ≤ most_rows }
+    requires state_room { at + most_rows ≤ lists.length state.now }
+    requires list_zero { list.old ≡ zeros }
     ensures { list.new ≡ rows_at at n state.now }
 {
     let mut r = 0;
@@ -40,10 +40,10 @@ pub fn fill_longs(state: &[u64], at: usize, n: usize, list: &mut RowLongs)
 
 // The same as shorter words: whether each is at most `most`. If not, the list means nothing.
 pub fn fill_words(state: &[u64], at: usize, n: usize, most: u64, list: &mut RowWords) -> bool
-    requires fact_1 { n ≤ most_rows }
-    requires fact_2 { at + most_rows ≤ lists.length state.now }
-    requires fact_3 { most < 2 ^ 32 }
-    requires fact_4 { list.old ≡ zeros }
+    requires rows_few { n ≤ most_rows }
+    requires state_room { at + most_rows ≤ lists.length state.now }
+    requires most_small { most < 2 ^ 32 }
+    requires list_zero { list.old ≡ zeros }
     ensures value { result ≡ all n (λ (i : ℕ). leb (get_or state.now (at + i) 0) most) }
     ensures list_after { result ≡ true → list.new ≡ rows_at at n state.now }
 {
@@ -74,9 +74,9 @@ fn shorter(word: u64) -> u32
 }
 
 pub fn load_words(state: &[u64], at: usize, n: usize, most: u64) -> Narrow
-    requires fact_1 { n ≤ most_rows }
-    requires fact_2 { at + most_rows ≤ lists.length state.now }
-    requires fact_3 { most < 2 ^ 32 }
+    requires rows_few { n ≤ most_rows }
+    requires state_room { at + most_rows ≤ lists.length state.now }
+    requires most_small { most < 2 ^ 32 }
     ensures fits_value { result.fits ≡ all n (λ (i : ℕ). leb (get_or state.now (at + i) 0) most) }
     ensures list_value { result.fits ≡ true → result.list ≡ rows_at at n state.now }
 {
@@ -87,9 +87,9 @@ pub fn load_words(state: &[u64], at: usize, n: usize, most: u64) -> Narrow
 
 // The first n rows of a list, into the words from a place on.
 pub fn store_longs(state: &mut [u64], at: usize, n: usize, list: &RowLongs)
-    requires fact_1 { n ≤ most_rows }
-    requires fact_2 { at + most_rows ≤ lists.length state.old }
-    requires fact_3 { lists.length list.now ≡ most_rows }
+    requires rows_few { n ≤ most_rows }
+    requires state_room { at + most_rows ≤ lists.length state.old }
+    requires list_full { lists.length list.now ≡ most_rows }
     ensures state_after { state.new ≡ rows_stored at n list.now state.old }
     ensures state_unchanged { lists.length state.new ≡ lists.length state.old }
 {
@@ -102,9 +102,9 @@ pub fn store_longs(state: &mut [u64], at: usize, n: usize, list: &RowLongs)
 
 // The same of shorter words.
 pub fn store_words(state: &mut [u64], at: usize, n: usize, list: &[u32])
-    requires fact_1 { n ≤ most_rows }
-    requires fact_2 { at + most_rows ≤ lists.length state.old }
-    requires fact_3 { n ≤ lists.length list.now }
+    requires rows_few { n ≤ most_rows }
+    requires state_room { at + most_rows ≤ lists.length state.old }
+    requires list_enough { n ≤ lists.length list.now }
     ensures state_after { state.new ≡ rows_stored at n list.now state.old }
     ensures state_unchanged { lists.length state.new ≡ lists.length state.old }
 {
@@ -136,12 +136,12 @@ pub fn store_tree(
     depths: &RowWords,
     shares: &RowWords,
 )
-    requires n_le_most_rows_1 { n ≤ most_rows }
-    requires n_le_most_rows_2 { state_words ≤ lists.length state.old }
-    requires n_le_most_rows_3 { n ≤ lists.length identifiers.now }
-    requires parents_value_1 { lists.length parents.now ≡ most_rows }
-    requires parents_value_2 { lists.length depths.now ≡ most_rows }
-    requires parents_value_3 { lists.length shares.now ≡ most_rows }
+    requires rows_few { n ≤ most_rows }
+    requires state_room { state_words ≤ lists.length state.old }
+    requires identifiers_enough { n ≤ lists.length identifiers.now }
+    requires parents_full { lists.length parents.now ≡ most_rows }
+    requires depths_full { lists.length depths.now ≡ most_rows }
+    requires shares_full { lists.length shares.now ≡ most_rows }
     ensures state_after { state.new ≡
         tree_stored (tree_with n identifiers.now parents.now depths.now shares.now) state.old }
     ensures state_unchanged { lists.length state.new ≡ lists.length state.old }
@@ -160,11 +160,11 @@ pub fn store_tags(
     finishes: &RowLongs,
     virtuals: &RowLongs,
 )
-    requires n_le_most_rows_1 { n ≤ most_rows }
-    requires n_le_most_rows_2 { state_words ≤ lists.length state.old }
-    requires starts_value_1 { lists.length starts.now ≡ most_rows }
-    requires starts_value_2 { lists.length finishes.now ≡ most_rows }
-    requires starts_value_3 { lists.length virtuals.now ≡ most_rows }
+    requires rows_few { n ≤ most_rows }
+    requires state_room { state_words ≤ lists.length state.old }
+    requires starts_full { lists.length starts.now ≡ most_rows }
+    requires finishes_full { lists.length finishes.now ≡ most_rows }
+    requires virtuals_full { lists.length virtuals.now ≡ most_rows }
     ensures state_after { (rows : Rows) → rows.starts ≡ starts.now → rows.finishes ≡ finishes.now → rows.virtuals ≡ virtuals.now
         → state.new ≡ tags_stored n rows state.old }
     ensures state_unchanged { lists.length state.new ≡ lists.length state.old }
@@ -182,11 +182,11 @@ pub fn store_heads(
     head_lengths: &RowWords,
     head_classes: &RowWords,
 )
-    requires n_le_most_rows_1 { n ≤ most_rows }
-    requires n_le_most_rows_2 { state_words ≤ lists.length state.old }
-    requires heads_value_1 { lists.length heads.now ≡ most_rows }
-    requires heads_value_2 { lists.length head_lengths.now ≡ most_rows }
-    requires heads_value_3 { lists.length head_classes.now ≡ most_rows }
+    requires rows_few { n ≤ most_rows }
+    requires state_room { state_words ≤ lists.length state.old }
+    requires heads_full { lists.length heads.now ≡ most_rows }
+    requires head_lengths_full { lists.length head_lengths.now ≡ most_rows }
+    requires head_classes_full { lists.length head_classes.now ≡ most_rows }
     ensures state_after { (rows : Rows) → rows.heads ≡ heads.now → rows.head_lengths ≡ head_lengths.now
         → rows.head_classes ≡ head_classes.now → state.new ≡ heads_stored n rows state.old }
     ensures state_unchanged { lists.length state.new ≡ lists.length state.old }
@@ -205,12 +205,12 @@ pub fn store_counts(
     since: &RowLongs,
     parent_since: &RowLongs,
 )
-    requires n_le_most_rows_1 { n ≤ most_rows }
-    requires n_le_most_rows_2 { state_words ≤ lists.length state.old }
-    requires bytes_value_1 { lists.length bytes.now ≡ most_rows }
-    requires bytes_value_2 { lists.length held.now ≡ most_rows }
-    requires bytes_value_3 { lists.length since.now ≡ most_rows }
-    requires bytes_value_4 { lists.length parent_since.now ≡ most_rows }
+    requires rows_few { n ≤ most_rows }
+    requires state_room { state_words ≤ lists.length state.old }
+    requires bytes_full { lists.length bytes.now ≡ most_rows }
+    requires held_full { lists.length held.now ≡ most_rows }
+    requires since_full { lists.length since.now ≡ most_rows }
+    requires parent_since_full { lists.length parent_since.now ≡ most_rows }
     ensures state_after { (live : Live) → live.bytes ≡ bytes.now → live.held ≡ held.now → live.since ≡ since.now
         → live.parent_since ≡ parent_since.now → state.new ≡ counts_stored n live state.old }
     ensures state_unchanged { lists.length state.new ≡ lists.length state.old }
@@ -231,8 +231,8 @@ fn counted(x: usize) -> u64
 
 // A packet joins the m that are held, as the last.
 pub fn put_packet(state: &mut [u64], m: usize, class: usize, size: u32, name: u32)
-    requires fact_1 { m < most_held }
-    requires fact_2 { state_words ≤ lists.length state.old }
+    requires packets_few { m < most_held }
+    requires state_room { state_words ≤ lists.length state.old }
     ensures state_after { (packets : List Held) → packets_at m state.old ≡ packets → state.new ≡
         packets_stored (packets ++ record { class = class; length = size; name = name } ∷ []) state.old }
     ensures state_unchanged { lists.length state.new ≡ lists.length state.old }
@@ -244,9 +244,9 @@ pub fn put_packet(state: &mut [u64], m: usize, class: usize, size: u32, name: u3
 
 // Of the m words from a place on the one at index i goes, and the gap is closed; the last word stays where it was too.
 fn close(state: &mut [u64], at: usize, m: usize, i: usize)
-    requires fact_1 { i < m }
-    requires fact_2 { m ≤ most_held }
-    requires fact_3 { at + most_held ≤ lists.length state.old }
+    requires i_held { i < m }
+    requires packets_few { m ≤ most_held }
+    requires state_room { at + most_held ≤ lists.length state.old }
     ensures state_after { state.new ≡ sets state.old at (left_out i (words_at at m state.old)) }
     ensures state_unchanged { lists.length state.new ≡ lists.length state.old }
 {
@@ -259,9 +259,9 @@ fn close(state: &mut [u64], at: usize, m: usize, i: usize)
 
 // The packet at index i leaves the m that are held.
 pub fn take_packet(state: &mut [u64], m: usize, i: usize)
-    requires fact_1 { i < m }
-    requires fact_2 { m ≤ most_held }
-    requires fact_3 { state_words ≤ lists.length state.old }
+    requires i_held { i < m }
+    requires packets_few { m ≤ most_held }
+    requires state_room { state_words ≤ lists.length state.old }
     ensures state_after { state.new ≡ packets_stored (left_out i (packets_at m state.old)) state.old }
     ensures state_unchanged { lists.length state.new ≡ lists.length state.old }
 {
@@ -272,8 +272,8 @@ pub fn take_packet(state: &mut [u64], m: usize, i: usize)
 
 // The index of the packet with this name among the m that are held; m where there is none.
 pub fn find_packet(state: &[u64], m: usize, name: u64) -> usize
-    requires fact_1 { m ≤ most_held }
-    requires fact_2 { state_words ≤ lists.length state.now }
+    requires packets_few { m ≤ most_held }
+    requires state_room { state_words ≤ lists.length state.now }
     ensures { result ≡ place_of name (packets_at m state.now) }
 {
     let mut i = 0;
@@ -305,9 +305,9 @@ fn next_at(name: u64, length: u64) -> Next
 
 // The first packet of this class among the m that are held, from an index on.
 pub fn next_packet(state: &[u64], m: usize, from: usize, class: usize) -> Next
-    requires fact_1 { m ≤ most_held }
-    requires fact_2 { state_words ≤ lists.length state.now }
-    requires fact_3 { Worded (packets_at m state.now) }
+    requires packets_few { m ≤ most_held }
+    requires state_room { state_words ≤ lists.length state.now }
+    requires worded { Worded (packets_at m state.now) }
     ensures { (next_of result.word result.size ≡ take 1 (queue (drop from (packets_at m state.now)) class)) × (result.size ≤ most_bytes) }
 {
     let wanted = counted(class);

@@ -32,9 +32,9 @@ fn store_accepted(words: &mut [u64], accepted: u64)
 
 // The rows after an event, and how many packets were accepted, into the words of a state with n rows.
 fn store_moved(words: &mut [u64], n: usize, accepted: u64, moved: Moved)
-    requires fact_1 { n ≤ most_rows }
-    requires fact_2 { state_words ≤ length words.old }
-    requires fact_3 { FullMoved moved }
+    requires rows_few { n ≤ most_rows }
+    requires state_room { state_words ≤ length words.old }
+    requires moved_full { FullMoved moved }
     ensures words_after { (live : Live) → Keeps live accepted moved → words.new ≡ rows_kept n live words.old }
     ensures words_len_unchanged { length words.new ≡ length words.old }
 {
@@ -56,8 +56,8 @@ fn store_moved(words: &mut [u64], n: usize, accepted: u64, moved: Moved)
 
 // A packet of so many bytes has arrived for class k.
 pub fn take_arrival(words: &mut [u64], state: State, k: usize, size: u32) -> LiveAnswer
-    requires fact_1 { state_words ≤ length words.old }
-    requires fact_2 { ArrivalTakes (live_in words.old) state k size }
+    requires state_room { state_words ≤ length words.old }
+    requires takes { ArrivalTakes (live_in words.old) state k size }
     ensures { (class : ℕ) → row_of (live_in words.old).tree class ≡ k
         → left_of result words.new ≡ taken words.old (Arrival class size) }
 {
@@ -76,8 +76,8 @@ pub fn take_arrival(words: &mut [u64], state: State, k: usize, size: u32) -> Liv
 
 // The line has finished its packet, which is the root's head.
 pub fn take_finish(words: &mut [u64], state: State) -> LiveAnswer
-    requires fact_1 { state_words ≤ length words.old }
-    requires fact_2 { FinishTakes (live_in words.old) state }
+    requires state_room { state_words ≤ length words.old }
+    requires takes { FinishTakes (live_in words.old) state }
     ensures { left_of result words.new ≡ taken words.old Finish }
 {
     let heads = state.heads;

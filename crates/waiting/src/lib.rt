@@ -100,10 +100,10 @@ pub fn choose(
     v: u64,
 ) -> Choice
     requires { p < most_rows }
-    ensures child_value { result.child ≡ child_of starts.now finishes.now heads.now p v
+    ensures child { result.child ≡ child_of starts.now finishes.now heads.now p v
         (forest roots.old left.old right.old) }
-    ensures time_value { result.time ≡ time_of starts.now p v (forest roots.old left.old right.old) }
-    ensures right_after { forest roots.new left.new right.new
+    ensures time { result.time ≡ time_of starts.now p v (forest roots.old left.old right.old) }
+    ensures forest_after { forest roots.new left.new right.new
         ≡ rest_of starts.now finishes.now heads.now p v
         (forest roots.old left.old right.old) }
 {

@@ -30,7 +30,7 @@ returns-then-refusal-ne0 c =
 pub read-requires : goal.read-requires
 read-requires c =
     let lent : CaptureLent = capture_lent c.args.capture.now c.args.sorting c.args.rate (table_of c.args.identifiers.now c.args.parent_identifiers.now c.args.shares.now)
-    (events_of c.args.classes.now c.args.lengths.now) c.args.order.now c.args.report.now c.args.lags.now c.args.working.now in let found = found_here lent c.check-scan.result c.check-scan.ensures c.first_refused-refusal.result c.first_refused-refusal.ensures c.if-refusal-ne0.false in let few = few_records lent c.check-scan.result c.check-scan.ensures c.first_refused-refusal.result c.first_refused-refusal.ensures c.if-refusal-ne0.false in record { fact_1 = found; fact_2 = (omega (arith, few, c.no_stamps-stamps.ensures), omega (arith, few, c.no_packets-packet_classes.ensures), omega (arith, few, c.no_packets-packet_lengths.ensures)) }
+    (events_of c.args.classes.now c.args.lengths.now) c.args.order.now c.args.report.now c.args.lags.now c.args.working.now in let found = found_here lent c.check-scan.result c.check-scan.ensures c.first_refused-refusal.result c.first_refused-refusal.ensures c.if-refusal-ne0.false in let few = few_records lent c.check-scan.result c.check-scan.ensures c.first_refused-refusal.result c.first_refused-refusal.ensures c.if-refusal-ne0.false in record { found = found; columns_room = (omega (arith, few, c.no_stamps-stamps.ensures), omega (arith, few, c.no_packets-packet_classes.ensures), omega (arith, few, c.no_packets-packet_lengths.ensures)) }
 
 pub slice_bounds-stamps-end : goal.slice_bounds-stamps-end
 slice_bounds-stamps-end c =
@@ -86,7 +86,7 @@ replay_packets-requires c =
     (events_of c.args.classes.now c.args.lengths.now) c.args.order.now c.args.report.now c.args.lags.now c.args.working.now in
     let records : ℕ = c.check-scan.result.records in
     let few : records ≤ 32768 = few_records lent c.check-scan.result c.check-scan.ensures c.first_refused-refusal.result c.first_refused-refusal.ensures c.if-refusal-ne0.false in
-    let stamps_long : records ≤ length c.read.new.stamps = omega (arith, few, c.read.auto.stamps, c.no_stamps-stamps.ensures) in let scan = c.check-scan.result in let first = c.first_refused-refusal.result in let none = c.if-refusal-ne0.false in let size = length-take-le records c.read.new.stamps stamps_long in record { fact_1 = stamps_small c.args.capture.now c.args.sorting _ _ c.read.ensures records (found_here lent scan c.check-scan.ensures first c.first_refused-refusal.ensures none).counted; fact_2 = packets_pass lent scan c.check-scan.ensures first c.first_refused-refusal.ensures none _ _ c.read.ensures; fact_3 = omega (arith, size, classes_room lent scan c.check-scan.ensures first c.first_refused-refusal.ensures none); fact_4 = omega (arith, size, lengths_room lent scan c.check-scan.ensures first c.first_refused-refusal.ensures none) }
+    let stamps_long : records ≤ length c.read.new.stamps = omega (arith, few, c.read.auto.stamps, c.no_stamps-stamps.ensures) in let scan = c.check-scan.result in let first = c.first_refused-refusal.result in let none = c.if-refusal-ne0.false in let size = length-take-le records c.read.new.stamps stamps_long in record { stamped = stamps_small c.args.capture.now c.args.sorting _ _ c.read.ensures records (found_here lent scan c.check-scan.ensures first c.first_refused-refusal.ensures none).counted; lengths_fine = packets_pass lent scan c.check-scan.ensures first c.first_refused-refusal.ensures none _ _ c.read.ensures; classes_room = omega (arith, size, classes_room lent scan c.check-scan.ensures first c.first_refused-refusal.ensures none); lengths_room = omega (arith, size, lengths_room lent scan c.check-scan.ensures first c.first_refused-refusal.ensures none) }
 
 pub returns : goal.returns
 returns c =

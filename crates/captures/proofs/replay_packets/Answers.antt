@@ -25,7 +25,7 @@ read_sized-reading-requires c =
     let arrivals : Arrivals = arrivals_with c.args.stamps.now c.args.packet_classes.now c.args.packet_lengths.now in
     let list : Events = list_of (tree_of table) arrivals c.args.rate in
     let room : Room = room_with (length c.args.order.now) (length c.args.report.now) (length c.args.lags.now) (length c.args.working.now) in
-    let lengths_ok : (lengths_refused table list room).number ≡ 0 = c.requires.fact_2 in whole_sized table list room lengths_ok
+    let lengths_ok : (lengths_refused table list room).number ≡ 0 = c.requires.lengths_fine in whole_sized table list room lengths_ok
 
 pub returns-then-bad-ne0 : goal.returns-then-bad-ne0
 returns-then-bad-ne0 c =
@@ -33,7 +33,7 @@ returns-then-bad-ne0 c =
     let arrivals : Arrivals = arrivals_with c.args.stamps.now c.args.packet_classes.now c.args.packet_lengths.now in
     let list : Events = list_of (tree_of table) arrivals c.args.rate in
     let room : Room = room_with (length c.args.order.now) (length c.args.report.now) (length c.args.lags.now) (length c.args.working.now) in
-    let lengths_ok : (lengths_refused table list room).number ≡ 0 = c.requires.fact_2 in
+    let lengths_ok : (lengths_refused table list room).number ≡ 0 = c.requires.lengths_fine in
     table_replayed table arrivals c.args.rate c.args.order.now c.args.report.now c.args.lags.now c.args.working.now lengths_ok
     c.read_sized-reading.result c.read_sized-reading.ensures c.if-bad-ne0.true _ c.refused.ensures _ _
 
@@ -43,8 +43,8 @@ list-refusal-requires c =
     let arrivals : Arrivals = arrivals_with c.args.stamps.now c.args.packet_classes.now c.args.packet_lengths.now in
     let list : Events = list_of (tree_of table) arrivals c.args.rate in
     let room : Room = room_with (length c.args.order.now) (length c.args.report.now) (length c.args.lags.now) (length c.args.working.now) in
-    let lengths_ok : (lengths_refused table list room).number ≡ 0 = c.requires.fact_2 in
-    let few : 2 * length c.args.stamps.now ≤ most_events = few_packets table arrivals c.args.rate c.args.order.now c.args.report.now c.args.lags.now c.args.working.now lengths_ok in record { fact_1 = ground table (whole_rows table list room lengths_ok) c.read_sized-reading.result c.read_sized-reading.ensures c.if-bad-ne0.false; fact_2 = c.requires.fact_1; fact_3 = few; fact_4 = omega (arith, few, c.no_words-list_classes.ensures.1); fact_5 = omega (arith, few, c.no_words-list_lengths.ensures.1) }
+    let lengths_ok : (lengths_refused table list room).number ≡ 0 = c.requires.lengths_fine in
+    let few : 2 * length c.args.stamps.now ≤ most_events = few_packets table arrivals c.args.rate c.args.order.now c.args.report.now c.args.lags.now c.args.working.now lengths_ok in record { grounded = ground table (whole_rows table list room lengths_ok) c.read_sized-reading.result c.read_sized-reading.ensures c.if-bad-ne0.false; stamped = c.requires.stamped; events_few = few; classes_room = omega (arith, few, c.no_words-list_classes.ensures.1); lengths_room = omega (arith, few, c.no_words-list_lengths.ensures.1) }
 
 pub returns-then-refusal-ne0 : goal.returns-then-refusal-ne0
 returns-then-refusal-ne0 c =
@@ -52,7 +52,7 @@ returns-then-refusal-ne0 c =
     let arrivals : Arrivals = arrivals_with c.args.stamps.now c.args.packet_classes.now c.args.packet_lengths.now in
     let list : Events = list_of (tree_of table) arrivals c.args.rate in
     let room : Room = room_with (length c.args.order.now) (length c.args.report.now) (length c.args.lags.now) (length c.args.working.now) in
-    let lengths_ok : (lengths_refused table list room).number ≡ 0 = c.requires.fact_2 in
+    let lengths_ok : (lengths_refused table list room).number ≡ 0 = c.requires.lengths_fine in
     event_replayed table arrivals c.args.rate c.args.order.now c.args.report.now c.args.lags.now c.args.working.now lengths_ok
     c.read_sized-reading.result c.read_sized-reading.ensures c.if-bad-ne0.false c.list-refusal.result _ _ c.list-refusal.ensures c.if-refusal-ne0.true _ c.refused-then-refusal-ne0.ensures _ _
 
@@ -62,7 +62,7 @@ overflow_mul-events c =
     let arrivals : Arrivals = arrivals_with c.args.stamps.now c.args.packet_classes.now c.args.packet_lengths.now in
     let list : Events = list_of (tree_of table) arrivals c.args.rate in
     let room : Room = room_with (length c.args.order.now) (length c.args.report.now) (length c.args.lags.now) (length c.args.working.now) in
-    let lengths_ok : (lengths_refused table list room).number ≡ 0 = c.requires.fact_2 in
+    let lengths_ok : (lengths_refused table list room).number ≡ 0 = c.requires.lengths_fine in
     let few : 2 * length c.args.stamps.now ≤ most_events = few_packets table arrivals c.args.rate c.args.order.now c.args.report.now c.args.lags.now c.args.working.now lengths_ok in omega (arith, few)
 
 pub slice_bounds-list_classes-end : goal.slice_bounds-list_classes-end
@@ -71,7 +71,7 @@ slice_bounds-list_classes-end c =
     let arrivals : Arrivals = arrivals_with c.args.stamps.now c.args.packet_classes.now c.args.packet_lengths.now in
     let list : Events = list_of (tree_of table) arrivals c.args.rate in
     let room : Room = room_with (length c.args.order.now) (length c.args.report.now) (length c.args.lags.now) (length c.args.working.now) in
-    let lengths_ok : (lengths_refused table list room).number ≡ 0 = c.requires.fact_2 in
+    let lengths_ok : (lengths_refused table list room).number ≡ 0 = c.requires.lengths_fine in
     let few : 2 * length c.args.stamps.now ≤ most_events = few_packets table arrivals c.args.rate c.args.order.now c.args.report.now c.args.lags.now c.args.working.now lengths_ok in
     let events : ℕ = 2 * length c.args.stamps.now in
     let classes_long : events ≤ length c.list-refusal.new.classes = omega (arith, few, c.list-refusal.auto.classes, c.no_words-list_classes.ensures.1) in classes_long
@@ -82,7 +82,7 @@ slice_bounds-run_list-end c =
     let arrivals : Arrivals = arrivals_with c.args.stamps.now c.args.packet_classes.now c.args.packet_lengths.now in
     let list : Events = list_of (tree_of table) arrivals c.args.rate in
     let room : Room = room_with (length c.args.order.now) (length c.args.report.now) (length c.args.lags.now) (length c.args.working.now) in
-    let lengths_ok : (lengths_refused table list room).number ≡ 0 = c.requires.fact_2 in
+    let lengths_ok : (lengths_refused table list room).number ≡ 0 = c.requires.lengths_fine in
     let few : 2 * length c.args.stamps.now ≤ most_events = few_packets table arrivals c.args.rate c.args.order.now c.args.report.now c.args.lags.now c.args.working.now lengths_ok in
     let events : ℕ = 2 * length c.args.stamps.now in
     let classes_long : events ≤ length c.list-refusal.new.classes = omega (arith, few, c.list-refusal.auto.classes, c.no_words-list_classes.ensures.1) in sym (length-take-le _ _ classes_long)
@@ -93,7 +93,7 @@ slice_bounds-list_lengths-end c =
     let arrivals : Arrivals = arrivals_with c.args.stamps.now c.args.packet_classes.now c.args.packet_lengths.now in
     let list : Events = list_of (tree_of table) arrivals c.args.rate in
     let room : Room = room_with (length c.args.order.now) (length c.args.report.now) (length c.args.lags.now) (length c.args.working.now) in
-    let lengths_ok : (lengths_refused table list room).number ≡ 0 = c.requires.fact_2 in
+    let lengths_ok : (lengths_refused table list room).number ≡ 0 = c.requires.lengths_fine in
     let few : 2 * length c.args.stamps.now ≤ most_events = few_packets table arrivals c.args.rate c.args.order.now c.args.report.now c.args.lags.now c.args.working.now lengths_ok in
     let events : ℕ = 2 * length c.args.stamps.now in
     let lengths_long : events ≤ length c.list-refusal.new.lengths = omega (arith, few, c.list-refusal.auto.lengths, c.no_words-list_lengths.ensures.1) in lengths_long
@@ -104,7 +104,7 @@ slice_bounds-run_list-end-2 c =
     let arrivals : Arrivals = arrivals_with c.args.stamps.now c.args.packet_classes.now c.args.packet_lengths.now in
     let list : Events = list_of (tree_of table) arrivals c.args.rate in
     let room : Room = room_with (length c.args.order.now) (length c.args.report.now) (length c.args.lags.now) (length c.args.working.now) in
-    let lengths_ok : (lengths_refused table list room).number ≡ 0 = c.requires.fact_2 in
+    let lengths_ok : (lengths_refused table list room).number ≡ 0 = c.requires.lengths_fine in
     let few : 2 * length c.args.stamps.now ≤ most_events = few_packets table arrivals c.args.rate c.args.order.now c.args.report.now c.args.lags.now c.args.working.now lengths_ok in
     let events : ℕ = 2 * length c.args.stamps.now in
     let lengths_long : events ≤ length c.list-refusal.new.lengths = omega (arith, few, c.list-refusal.auto.lengths, c.no_words-list_lengths.ensures.1) in sym (length-take-le _ _ lengths_long)
@@ -115,11 +115,11 @@ run_list-requires c =
     let arrivals : Arrivals = arrivals_with c.args.stamps.now c.args.packet_classes.now c.args.packet_lengths.now in
     let list : Events = list_of (tree_of table) arrivals c.args.rate in
     let room : Room = room_with (length c.args.order.now) (length c.args.report.now) (length c.args.lags.now) (length c.args.working.now) in
-    let lengths_ok : (lengths_refused table list room).number ≡ 0 = c.requires.fact_2 in
+    let lengths_ok : (lengths_refused table list room).number ≡ 0 = c.requires.lengths_fine in
     let few : 2 * length c.args.stamps.now ≤ most_events = few_packets table arrivals c.args.rate c.args.order.now c.args.report.now c.args.lags.now c.args.working.now lengths_ok in
     let events : ℕ = 2 * length c.args.stamps.now in
     let classes_long : events ≤ length c.list-refusal.new.classes = omega (arith, few, c.list-refusal.auto.classes, c.no_words-list_classes.ensures.1) in
-    let lengths_long : events ≤ length c.list-refusal.new.lengths = omega (arith, few, c.list-refusal.auto.lengths, c.no_words-list_lengths.ensures.1) in let classes = c.list-refusal.new.classes in let lengths = c.list-refusal.new.lengths in record { fact_1 = omega (arith, length-take-le events classes classes_long, c.requires.fact_3); fact_2 = omega (arith, length-take-le events lengths lengths_long, c.requires.fact_4) }
+    let lengths_long : events ≤ length c.list-refusal.new.lengths = omega (arith, few, c.list-refusal.auto.lengths, c.no_words-list_lengths.ensures.1) in let classes = c.list-refusal.new.classes in let lengths = c.list-refusal.new.lengths in record { classes_room = omega (arith, length-take-le events classes classes_long, c.requires.classes_room); lengths_room = omega (arith, length-take-le events lengths lengths_long, c.requires.lengths_room) }
 
 pub returns : goal.returns
 returns c =
@@ -127,6 +127,6 @@ returns c =
     let arrivals : Arrivals = arrivals_with c.args.stamps.now c.args.packet_classes.now c.args.packet_lengths.now in
     let list : Events = list_of (tree_of table) arrivals c.args.rate in
     let room : Room = room_with (length c.args.order.now) (length c.args.report.now) (length c.args.lags.now) (length c.args.working.now) in
-    let lengths_ok : (lengths_refused table list room).number ≡ 0 = c.requires.fact_2 in
+    let lengths_ok : (lengths_refused table list room).number ≡ 0 = c.requires.lengths_fine in
     list_replayed table arrivals c.args.rate c.args.order.now c.args.report.now c.args.lags.now c.args.working.now lengths_ok
     c.read_sized-reading.result c.read_sized-reading.ensures c.if-bad-ne0.false c.list-refusal.result _ _ c.list-refusal.ensures c.if-refusal-ne0.false _ _ _ _ _ c.run_list.ensures

@@ -18,14 +18,14 @@ use Rattle.choosing.proofs.chooses.Goals as goal
 pub find-choice-requires : goal.find-choice-requires
 find-choice-requires c =
     let tree : ℕ → List ℕ → List ℕ → Tree = λ n ids depths. tree_with n ids c.args.parents.now depths c.args.shares.now in
-    let known = c.requires.by_index in
+    let known = c.requires.chooses in
     (tree known.0 known.1 known.2, known.3, _, _, known.4)
 
 pub takes-requires : goal.takes-requires
 takes-requires c =
     let rows : Rows = rows_of c.args.starts.now c.args.finishes.now c.args.virtuals.now c.args.heads.now c.args.head_lengths.now
     c.args.head_classes.now in
-    let tree : ℕ → List ℕ → List ℕ → Tree = λ n ids depths. tree_with n ids c.args.parents.now depths c.args.shares.now in let known = c.requires.by_index in let may = known.4 in let found = c.find-choice.ensures (tree known.0 known.1 known.2) known.3 _ _ may in let few : c.args.p < most_rows = omega (arith, may.inner.inside, may.sound.few_rows) in let fits : c.find-choice.result.time + most_choice < 2 ^ 64 =
+    let tree : ℕ → List ℕ → List ℕ → Tree = λ n ids depths. tree_with n ids c.args.parents.now depths c.args.shares.now in let known = c.requires.chooses in let may = known.4 in let found = c.find-choice.ensures (tree known.0 known.1 known.2) known.3 _ _ may in let few : c.args.p < most_rows = omega (arith, may.inner.inside, may.sound.few_rows) in let fits : c.find-choice.result.time + most_choice < 2 ^ 64 =
     rw found.time_is (raised_leeway most_choice (tree known.0 known.1 known.2) rows c.requires.leeway c.args.p) in record { p_lt_most_rows = few; k_lt_most_rows = omega arith; most_choice_bound = fits; inside = c.requires.inside; leeway = c.requires.leeway }
 
 pub returns-then-child-eq0 : goal.returns-then-child-eq0

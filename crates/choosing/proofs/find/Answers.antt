@@ -21,7 +21,7 @@ returns-in-Heaps c tree class_of lengths classes old =
     let heaps = c.in-Heaps.is in
     let filed = rw heaps at old.filed in
     record {
-      time_is = c.choose-in-Heaps.ensures.time_value ∙ chosen_time tree old.sound class_of Arrived _ old.inner _ _ old.none filed;
-      child_is = c.choose-in-Heaps.ensures.child_value ∙ chosen_child tree old.sound class_of Arrived _ old.inner _ _ old.none filed;
-      filed = λ why. rw (heaps, c.choose-in-Heaps.ensures.right_after) (chosen tree old.sound class_of why _ old.inner _ _ old.none filed);
+      time_is = c.choose-in-Heaps.ensures.time ∙ chosen_time tree old.sound class_of Arrived _ old.inner _ _ old.none filed;
+      child_is = c.choose-in-Heaps.ensures.child ∙ chosen_child tree old.sound class_of Arrived _ old.inner _ _ old.none filed;
+      filed = λ why. rw (heaps, c.choose-in-Heaps.ensures.forest_after) (chosen tree old.sound class_of why _ old.inner _ _ old.none filed);
     }

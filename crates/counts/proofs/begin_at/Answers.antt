@@ -11,10 +11,10 @@ use Rattle.input.specs.Limits.{most_rows}
 use Rattle.counts.proofs.begin_at.Goals as goal
 
 pub offset_bounds-bytes-p : goal.offset_bounds-bytes-p
-offset_bounds-bytes-p c = omega (arith, (let it : c.entry-p.result < most_rows = omega (arith, c.entry-p.ensures, c.requires.fact_2 c.args.r c.requires.fact_1) in it))
+offset_bounds-bytes-p c = omega (arith, (let it : c.entry-p.result < most_rows = omega (arith, c.entry-p.ensures, c.requires.parents_inside c.args.r c.requires.r_is_row) in it))
 
 pub bounds-bytes-p : goal.bounds-bytes-p
-bounds-bytes-p c = omega (arith, (let it : c.entry-p.result < most_rows = omega (arith, c.entry-p.ensures, c.requires.fact_2 c.args.r c.requires.fact_1) in it))
+bounds-bytes-p c = omega (arith, (let it : c.entry-p.result < most_rows = omega (arith, c.entry-p.ensures, c.requires.parents_inside c.args.r c.requires.r_is_row) in it))
 
 pub returns-then-held-r-eq0 : goal.returns-then-held-r-eq0
 returns-then-held-r-eq0 c = let a = c.args in let idle : get_or a.held.now a.r 0 ≡ 0 = omega (arith, c.if-held-r-eq0.true) in record { since_after = rw idle; parent_since_after = rw (idle, ← c.entry-p.ensures) }

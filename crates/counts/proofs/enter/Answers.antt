@@ -22,17 +22,17 @@ loop-to_enter-init c = (
   marked_none,
   marked_none,
   omega (arith, c.entry-to_enter.ensures),
-  λ i inside. omega (arith, c.requires.fact_4 i inside),
+  λ i inside. omega (arith, c.requires.held_small i inside),
 )
 
 pub enter_at-requires : goal.enter_at-requires
-enter_at-requires c = record { fact_1 = c.loop-to_enter.invariant.0; fact_2 = c.requires.fact_2; fact_3 = omega (arith, c.loop-to_enter.invariant.7 c.loop-to_enter.r c.loop-to_enter.invariant.0) }
+enter_at-requires c = record { r_is_row = c.loop-to_enter.invariant.0; parents_inside = c.requires.parents_inside; held_small = omega (arith, c.loop-to_enter.invariant.7 c.loop-to_enter.r c.loop-to_enter.invariant.0) }
 
 pub loop-to_enter-preserved : goal.loop-to_enter-preserved
 loop-to_enter-preserved c =
     let test : 0 < c.loop-to_enter.to_enter = omega (arith, c.loop-to_enter-test.true) in
     let here = c.loop-to_enter.invariant.7 c.loop-to_enter.r c.loop-to_enter.invariant.0 in (
-      omega (arith, c.entry-r.ensures, c.requires.fact_2 c.loop-to_enter.r c.loop-to_enter.invariant.0),
+      omega (arith, c.entry-r.ensures, c.requires.parents_inside c.loop-to_enter.r c.loop-to_enter.invariant.0),
       remains_less test c.entry-r.ensures c.enter_at.ensures.held_after c.loop-to_enter.invariant.1,
       remains_less test c.entry-r.ensures (marked_as c.loop-to_enter.r c.loop-to_enter.invariant.4 c.enter_at.ensures.since_after) c.loop-to_enter.invariant.2,
       remains_less test c.entry-r.ensures (marked_as c.loop-to_enter.r c.loop-to_enter.invariant.5 c.enter_at.ensures.parent_since_after) c.loop-to_enter.invariant.3,
@@ -46,7 +46,7 @@ loop-to_enter-preserved c =
     )
 
 pub enter_at-requires-2 : goal.enter_at-requires-2
-enter_at-requires-2 c = record { fact_1 = c.loop-to_enter.invariant.0; fact_2 = c.requires.fact_2; fact_3 = omega (arith, c.loop-to_enter.invariant.7 c.loop-to_enter.r c.loop-to_enter.invariant.0) }
+enter_at-requires-2 c = record { r_is_row = c.loop-to_enter.invariant.0; parents_inside = c.requires.parents_inside; held_small = omega (arith, c.loop-to_enter.invariant.7 c.loop-to_enter.r c.loop-to_enter.invariant.0) }
 
 pub returns : goal.returns
 returns c tree box place size by counts =

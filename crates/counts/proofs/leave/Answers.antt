@@ -18,17 +18,17 @@ loop-to_leave-init c = (
   remains_all c.entry-to_leave.ensures,
   remains_all c.entry-to_leave.ensures,
   omega (arith, c.entry-to_leave.ensures),
-  λ i inside. omega (arith, c.requires.fact_4 i inside),
+  λ i inside. omega (arith, c.requires.bytes_small i inside),
 )
 
 pub leave_at-requires : goal.leave_at-requires
-leave_at-requires c = record { fact_1 = c.loop-to_leave.invariant.0; fact_2 = omega (arith, c.loop-to_leave.invariant.4 c.loop-to_leave.r c.loop-to_leave.invariant.0); fact_3 = c.ranges.length.fits }
+leave_at-requires c = record { r_is_row = c.loop-to_leave.invariant.0; bytes_small = omega (arith, c.loop-to_leave.invariant.4 c.loop-to_leave.r c.loop-to_leave.invariant.0); length_small = c.ranges.length.fits }
 
 pub loop-to_leave-preserved : goal.loop-to_leave-preserved
 loop-to_leave-preserved c =
     let test : 0 < c.loop-to_leave.to_leave = omega (arith, c.loop-to_leave-test.true) in
     let here = c.loop-to_leave.invariant.4 c.loop-to_leave.r c.loop-to_leave.invariant.0 in (
-      omega (arith, c.entry-r.ensures, c.requires.fact_2 c.loop-to_leave.r c.loop-to_leave.invariant.0),
+      omega (arith, c.entry-r.ensures, c.requires.parents_inside c.loop-to_leave.r c.loop-to_leave.invariant.0),
       remains_less test c.entry-r.ensures c.leave_at.ensures.bytes_after c.loop-to_leave.invariant.1,
       remains_less test c.entry-r.ensures c.leave_at.ensures.held_after c.loop-to_leave.invariant.2,
       omega arith,
@@ -40,7 +40,7 @@ loop-to_leave-preserved c =
     )
 
 pub leave_at-requires-2 : goal.leave_at-requires-2
-leave_at-requires-2 c = record { fact_1 = c.loop-to_leave.invariant.0; fact_2 = omega (arith, c.loop-to_leave.invariant.4 c.loop-to_leave.r c.loop-to_leave.invariant.0); fact_3 = c.ranges.length.fits }
+leave_at-requires-2 c = record { r_is_row = c.loop-to_leave.invariant.0; bytes_small = omega (arith, c.loop-to_leave.invariant.4 c.loop-to_leave.r c.loop-to_leave.invariant.0); length_small = c.ranges.length.fits }
 
 pub returns : goal.returns
 returns c tree box since parent_since by class long counts =

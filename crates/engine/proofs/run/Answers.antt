@@ -26,7 +26,7 @@ serve-sent-requires c =
     let lent : Lent = lent_of c.args.identifiers.now c.args.parent_identifiers.now c.args.shares.now c.args.classes.now c.args.lengths.now
     c.args.order.now c.args.report.now c.args.lags.now c.args.working.now in
     let check_is : c.check-check.result ≡ checked lent.table lent.events (room_of lent) = c.check-check.ensures in
-    let room_is : Roomy lent.table lent.events (room_of lent) = roomy_is lent c.check-check.result check_is c.if-refusal-ne0.false in let check = c.check-check.result in let room = room_is in record { fit_1 = fit_is lent check check_is c.if-refusal-ne0.false; fit_2 = sending_is lent check check_is c.if-refusal-ne0.false; fit_3 = rows_for_is lent check check_is c.if-refusal-ne0.false; fit_4 = room.order_room; fit_5 = room.working_room; identifiers_bound_1 = room.report_room; identifiers_bound_2 = room.lags_room }
+    let room_is : Roomy lent.table lent.events (room_of lent) = roomy_is lent c.check-check.result check_is c.if-refusal-ne0.false in let check = c.check-check.result in let room = room_is in record { fit = fit_is lent check check_is c.if-refusal-ne0.false; senders_told = sending_is lent check check_is c.if-refusal-ne0.false; event_rows_told = rows_for_is lent check check_is c.if-refusal-ne0.false; order_room = room.order_room; working_room = room.working_room; report_room = room.report_room; lags_room = room.lags_room }
 
 pub clear-requires : goal.clear-requires
 unfolding room_of

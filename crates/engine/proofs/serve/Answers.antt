@@ -29,11 +29,11 @@ pub open-requires : goal.open-requires
 open-requires c =
     let tree : Tree = tree_at c.args.identifiers.now c.args.parents.now c.args.depths.now c.args.shares.now in
     let events : Events = events_of c.args.classes.now c.args.lengths.now in
-    let fit : Fit tree events = c.requires.fit_1 in let fits = fit in let sound = fits.accepted.sound in record { rows_nonzero = (sound.some_rows, sound.few_rows); inside = fits.inside; roots_value = (refl, refl) }
+    let fit : Fit tree events = c.requires.fit in let fits = fit in let sound = fits.accepted.sound in record { rows_nonzero = (sound.some_rows, sound.few_rows); inside = fits.inside; roots_value = (refl, refl) }
 
 pub clear-requires : goal.clear-requires
 clear-requires c =
-    let working_room : length c.args.classes.now ≤ length c.args.working.now = c.requires.fit_5 in working_room
+    let working_room : length c.args.classes.now ≤ length c.args.working.now = c.requires.working_room in working_room
 
 pub loop-i-init : goal.loop-i-init
 loop-i-init c =
@@ -46,17 +46,17 @@ pub bounds-event_rows-i : goal.bounds-event_rows-i
 bounds-event_rows-i c =
     let tree : Tree = tree_at c.args.identifiers.now c.args.parents.now c.args.depths.now c.args.shares.now in
     let events : Events = events_of c.args.classes.now c.args.lengths.now in
-    let fit : Fit tree events = c.requires.fit_1 in
+    let fit : Fit tree events = c.requires.fit in
     let few_events : c.loop-i.i < most_events = omega (arith, c.loop-i-test.true, fit.few) in omega (arith, few_events)
 
 pub step-sent-requires : goal.step-sent-requires
 step-sent-requires c =
     let tree : Tree = tree_at c.args.identifiers.now c.args.parents.now c.args.depths.now c.args.shares.now in
     let events : Events = events_of c.args.classes.now c.args.lengths.now in
-    let fit : Fit tree events = c.requires.fit_1 in
-    let rows_for : RowsFor tree events c.args.event_rows.now = c.requires.fit_3 in
-    let order_room : length c.args.classes.now ≤ length c.args.order.now = c.requires.fit_4 in
-    let working_room : length c.args.classes.now ≤ length c.args.working.now = c.requires.fit_5 in
+    let fit : Fit tree events = c.requires.fit in
+    let rows_for : RowsFor tree events c.args.event_rows.now = c.requires.event_rows_told in
+    let order_room : length c.args.classes.now ≤ length c.args.order.now = c.requires.order_room in
+    let working_room : length c.args.classes.now ≤ length c.args.working.now = c.requires.working_room in
     let rows : Rows = rows_of c.loop-i.starts c.loop-i.finishes c.loop-i.virtuals c.loop-i.heads c.loop-i.head_lengths c.loop-i.head_classes in
     let working_length : length c.loop-i.working ≡ length c.args.working.now = c.loop-i.invariant.2 ∙ c.clear.auto.working in
     let coming : Coming c.args.way tree events c.loop-i.i (get_or c.args.event_rows.now c.loop-i.i 0) c.loop-i.sent rows
@@ -74,7 +74,7 @@ pub overflow_add-i : goal.overflow_add-i
 overflow_add-i c =
     let tree : Tree = tree_at c.args.identifiers.now c.args.parents.now c.args.depths.now c.args.shares.now in
     let events : Events = events_of c.args.classes.now c.args.lengths.now in
-    let fit : Fit tree events = c.requires.fit_1 in
+    let fit : Fit tree events = c.requires.fit in
     let few_events : c.loop-i.i < most_events = omega (arith, c.loop-i-test.true, fit.few) in omega (arith, few_events)
 
 pub loop-i-smaller : goal.loop-i-smaller
@@ -84,10 +84,10 @@ pub loop-i-preserved : goal.loop-i-preserved
 loop-i-preserved c =
     let tree : Tree = tree_at c.args.identifiers.now c.args.parents.now c.args.depths.now c.args.shares.now in
     let events : Events = events_of c.args.classes.now c.args.lengths.now in
-    let fit : Fit tree events = c.requires.fit_1 in
-    let rows_for : RowsFor tree events c.args.event_rows.now = c.requires.fit_3 in
-    let order_room : length c.args.classes.now ≤ length c.args.order.now = c.requires.fit_4 in
-    let working_room : length c.args.classes.now ≤ length c.args.working.now = c.requires.fit_5 in
+    let fit : Fit tree events = c.requires.fit in
+    let rows_for : RowsFor tree events c.args.event_rows.now = c.requires.event_rows_told in
+    let order_room : length c.args.classes.now ≤ length c.args.order.now = c.requires.order_room in
+    let working_room : length c.args.classes.now ≤ length c.args.working.now = c.requires.working_room in
     let rows : Rows = rows_of c.loop-i.starts c.loop-i.finishes c.loop-i.virtuals c.loop-i.heads c.loop-i.head_lengths c.loop-i.head_classes in
     let working_length : length c.loop-i.working ≡ length c.args.working.now = c.loop-i.invariant.2 ∙ c.clear.auto.working in
     let coming : Coming c.args.way tree events c.loop-i.i (get_or c.args.event_rows.now c.loop-i.i 0) c.loop-i.sent rows
@@ -114,18 +114,18 @@ unfolding sends
 write_report-requires c =
     let tree : Tree = tree_at c.args.identifiers.now c.args.parents.now c.args.depths.now c.args.shares.now in
     let events : Events = events_of c.args.classes.now c.args.lengths.now in
-    let fit : Fit tree events = c.requires.fit_1 in record { fact_1 = fit.accepted.sound.few_rows; fact_2 = c.requires.identifiers_bound_1; fact_3 = λ some. sym (c.requires.fit_2 0 some) }
+    let fit : Fit tree events = c.requires.fit in record { rows_few = fit.accepted.sound.few_rows; report_room = c.requires.report_room; line_sends_nothing = λ some. sym (c.requires.senders_told 0 some) }
 
 pub write_lags-requires : goal.write_lags-requires
 write_lags-requires c =
     let tree : Tree = tree_at c.args.identifiers.now c.args.parents.now c.args.depths.now c.args.shares.now in
     let events : Events = events_of c.args.classes.now c.args.lengths.now in
-    let fit : Fit tree events = c.requires.fit_1 in
+    let fit : Fit tree events = c.requires.fit in
     let rows : Rows = rows_of c.loop-i.starts c.loop-i.finishes c.loop-i.virtuals c.loop-i.heads c.loop-i.head_lengths c.loop-i.head_classes in
     let end : c.loop-i.i ≡ count events = omega (arith, c.loop-i-test.false, c.loop-i.invariant.0) in
     let last : Now c.args.way tree events (count events) c.loop-i.sent rows
     (forest c.loop-i.roots c.loop-i.left c.loop-i.right) c.loop-i.bytes c.loop-i.held c.loop-i.since c.loop-i.parent_since
-    c.loop-i.lasts c.loop-i.working = rw (← end) c.loop-i.invariant.3 in record { rows_le_most_rows_1 = fit.accepted.sound.few_rows; rows_le_most_rows_2 = c.requires.identifiers_bound_2; at_most_1 = (λ r inside. omega (arith, fit.inside r)); at_most_2 = (λ r inside. fit.parts r); at_most_3 = bytes_now last fit; at_most_4 = past_now last fit }
+    c.loop-i.lasts c.loop-i.working = rw (← end) c.loop-i.invariant.3 in record { rows_few = fit.accepted.sound.few_rows; lags_room = c.requires.lags_room; parents_inside = (λ r inside. omega (arith, fit.inside r)); shares_allowed = (λ r inside. fit.parts r); bytes_small = bytes_now last fit; past = past_now last fit }
 
 pub shape_of-order : goal.shape_of-order
 shape_of-order c = c.loop-i.invariant.1
@@ -153,7 +153,7 @@ returns c =
     record {
       sent_are = last.sent_are;
       order_is = rw (← end) c.loop-i.invariant.4;
-      report_is = c.write_report.ensures tree box c.requires.fit_2 (shown last);
+      report_is = c.write_report.ensures tree box c.requires.senders_told (shown last);
       lags_are = c.write_lags.ensures tree box (record { parents = refl; shares = refl }) last.counts_are;
       working_rest = c.loop-i.invariant.5 ∙ cleared_rest (count events) c.args.working.now _ c.clear.ensures;
     }

@@ -29,7 +29,7 @@ leave_first-next-requires c =
     c.args.head_classes.now in
     let coming : Coming c.requires.0 tree events c.args.i c.args.row c.requires.4 rows c.requires.5 c.args.bytes.now c.args.held.now c.args.since.now
     c.args.parent_since.now c.args.lasts.now c.args.working.now c.requires.6 = c.requires.7 in
-    let is_finish : event events c.args.i ≡ Finish = finishes coming c.if-row-eq0.true in let known = coming in record { fact_1 = omega (arith, c.wide.ensures.0, class_few known is_finish); fact_2 = head_some known is_finish; fact_3 = head_inside known is_finish }
+    let is_finish : event events c.args.i ≡ Finish = finishes coming c.if-row-eq0.true in let known = coming in record { k_is_row = omega (arith, c.wide.ensures.0, class_few known is_finish); first_some = head_some known is_finish; first_inside = head_inside known is_finish }
 
 pub length_of-next_length-requires : goal.length_of-next_length-requires
 length_of-next_length-requires c =
@@ -49,7 +49,7 @@ depart-class-requires c =
     c.args.head_classes.now in
     let coming : Coming c.requires.0 tree events c.args.i c.args.row c.requires.4 rows c.requires.5 c.args.bytes.now c.args.held.now c.args.since.now
     c.args.parent_since.now c.args.lasts.now c.args.working.now c.requires.6 = c.requires.7 in
-    let is_finish : event events c.args.i ≡ Finish = finishes coming c.if-row-eq0.true in let known = coming in record { fact_1 = ready known; fact_2 = class_few known is_finish; fact_3 = rw c.length_of-next_length.ensures (next_length known is_finish c.leave_first-next.result c.leave_first-next.ensures.value) }
+    let is_finish : event events c.args.i ≡ Finish = finishes coming c.if-row-eq0.true in let known = coming in record { ready = ready known; class_is_row = class_few known is_finish; length_allowed = rw c.length_of-next_length.ensures (next_length known is_finish c.leave_first-next.result c.leave_first-next.ensures.value) }
 
 pub offset_bounds-depths-class : goal.offset_bounds-depths-class
 offset_bounds-depths-class c =
@@ -60,7 +60,7 @@ offset_bounds-depths-class c =
     let coming : Coming c.requires.0 tree events c.args.i c.args.row c.requires.4 rows c.requires.5 c.args.bytes.now c.args.held.now c.args.since.now
     c.args.parent_since.now c.args.lasts.now c.args.working.now c.requires.6 = c.requires.7 in
     let is_finish : event events c.args.i ≡ Finish = finishes coming c.if-row-eq0.true in
-    omega (arith, c.depart-class.ensures.value, class_few coming is_finish)
+    omega (arith, c.depart-class.ensures.class_sent, class_few coming is_finish)
 
 pub bounds-depths-class : goal.bounds-depths-class
 bounds-depths-class c =
@@ -71,16 +71,16 @@ bounds-depths-class c =
     let coming : Coming c.requires.0 tree events c.args.i c.args.row c.requires.4 rows c.requires.5 c.args.bytes.now c.args.held.now c.args.since.now
     c.args.parent_since.now c.args.lasts.now c.args.working.now c.requires.6 = c.requires.7 in
     let is_finish : event events c.args.i ≡ Finish = finishes coming c.if-row-eq0.true in
-    omega (arith, c.depart-class.ensures.value, class_few coming is_finish)
+    omega (arith, c.depart-class.ensures.class_sent, class_few coming is_finish)
 
 pub returns-then-row-eq0 : goal.returns-then-row-eq0
 returns-then-row-eq0 c way n ids classes sent f order given =
     let is = finishes given c.if-row-eq0.true in
     let next = c.leave_first-next.result in
     let found = c.leave_first-next.ensures.value in
-    finished given is next found _ _ _ _ _ _ c.depart-class.ensures.value
-    (c.depart-class.ensures.by_index n ids _ (rw c.length_of-next_length.ensures (next_packet given is next found)))
-    (c.depart-class.ensures.by_index_2 n ids _ _ _ given.now.rows_are given.now.counts_are) c.wide.ensures.0 c.leave_first-next.ensures.lasts_after
+    finished given is next found _ _ _ _ _ _ c.depart-class.ensures.class_sent
+    (c.depart-class.ensures.rows_after n ids _ (rw c.length_of-next_length.ensures (next_packet given is next found)))
+    (c.depart-class.ensures.counts_after n ids _ _ _ given.now.rows_are given.now.counts_are) c.wide.ensures.0 c.leave_first-next.ensures.lasts_after
 
 pub overflow_cast-i : goal.overflow_cast-i
 overflow_cast-i c =
@@ -117,7 +117,7 @@ arrive-from-requires c =
     c.args.head_classes.now in
     let coming : Coming c.requires.0 tree events c.args.i c.args.row c.requires.4 rows c.requires.5 c.args.bytes.now c.args.held.now c.args.since.now
     c.args.parent_since.now c.args.lasts.now c.args.working.now c.requires.6 = c.requires.7 in
-    let is_arrival : Arrives events c.args.i = arrives coming c.if-row-eq0.false in let known = coming in record { fact_1 = ready known; fact_2 = few_rows known is_arrival; fact_3 = omega (arith, few_events known); fact_4 = few_bytes known is_arrival }
+    let is_arrival : Arrives events c.args.i = arrives coming c.if-row-eq0.false in let known = coming in record { ready = ready known; k_is_row = few_rows known is_arrival; place_small = omega (arith, few_events known); length_allowed = few_bytes known is_arrival }
 
 pub overflow_cast-i-2 : goal.overflow_cast-i-2
 overflow_cast-i-2 c =
@@ -157,7 +157,7 @@ offset_bounds-depths-from c =
     let coming : Coming c.requires.0 tree events c.args.i c.args.row c.requires.4 rows c.requires.5 c.args.bytes.now c.args.held.now c.args.since.now
     c.args.parent_since.now c.args.lasts.now c.args.working.now c.requires.6 = c.requires.7 in
     let is_arrival : Arrives events c.args.i = arrives coming c.if-row-eq0.false in
-    omega (arith, c.arrive-from.ensures.value, few_from coming is_arrival)
+    omega (arith, c.arrive-from.ensures.front, few_from coming is_arrival)
 
 pub bounds-depths-from : goal.bounds-depths-from
 bounds-depths-from c =
@@ -168,10 +168,10 @@ bounds-depths-from c =
     let coming : Coming c.requires.0 tree events c.args.i c.args.row c.requires.4 rows c.requires.5 c.args.bytes.now c.args.held.now c.args.since.now
     c.args.parent_since.now c.args.lasts.now c.args.working.now c.requires.6 = c.requires.7 in
     let is_arrival : Arrives events c.args.i = arrives coming c.if-row-eq0.false in
-    omega (arith, c.arrive-from.ensures.value, few_from coming is_arrival)
+    omega (arith, c.arrive-from.ensures.front, few_from coming is_arrival)
 
 pub returns : goal.returns
 returns c way n ids classes sent f order given =
     let is = arrives given c.if-row-eq0.false in
-    arrived given is _ _ _ _ _ _ _ c.arrive-from.ensures.value (c.arrive-from.ensures.by_index n ids)
-    (c.arrive-from.ensures.by_index_2 n ids _ given.now.counts_are) c.join.ensures.lasts_after c.join.ensures.working_after
+    arrived given is _ _ _ _ _ _ _ c.arrive-from.ensures.front (c.arrive-from.ensures.rows_after n ids)
+    (c.arrive-from.ensures.counts_after n ids _ given.now.counts_are) c.join.ensures.lasts_after c.join.ensures.working_after

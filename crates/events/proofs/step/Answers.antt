@@ -32,7 +32,7 @@ up-requires c =
     c.args.head_classes.now in
     let heaps : Forest = forest c.args.roots.now c.args.left.now c.args.right.now in
     let coming : Coming c.args.way tree events c.args.i c.args.row c.args.sent rows heaps c.args.bytes.now c.args.held.now c.args.since.now
-    c.args.parent_since.now c.args.lasts.now c.args.working.now c.args.order.now = c.requires.3 in let fronted = c.meet-front.ensures c.args.way c.requires.0 c.requires.1 c.requires.2 c.args.sent heaps c.args.order.now coming in record { by_index = (c.requires.0, c.requires.1, _, _, fronted.climbs); inside = coming.fit.inside; leeway = fronted.leeway }
+    c.args.parent_since.now c.args.lasts.now c.args.working.now c.args.order.now = c.requires.3 in let fronted = c.meet-front.ensures c.args.way c.requires.0 c.requires.1 c.requires.2 c.args.sent heaps c.args.order.now coming in record { climbs = (c.requires.0, c.requires.1, _, _, fronted.climbs); inside = coming.fit.inside; leeway = fronted.leeway }
 
 pub send-requires : goal.send-requires
 send-requires c =
@@ -42,7 +42,7 @@ send-requires c =
     c.args.head_classes.now in
     let heaps : Forest = forest c.args.roots.now c.args.left.now c.args.right.now in
     let coming : Coming c.args.way tree events c.args.i c.args.row c.args.sent rows heaps c.args.bytes.now c.args.held.now c.args.since.now
-    c.args.parent_since.now c.args.lasts.now c.args.working.now c.args.order.now = c.requires.3 in let known = coming in record { fact_1 = room known; fact_2 = few_sent known }
+    c.args.parent_since.now c.args.lasts.now c.args.working.now c.args.order.now = c.requires.3 in let known = coming in record { order_room = room known; events_few = few_sent known }
 
 pub returns : goal.returns
 returns c n ids classes given =

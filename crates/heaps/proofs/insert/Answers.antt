@@ -7,4 +7,4 @@ use Rattle.heaps.proofs.insert.Goals as goal
 
 pub returns : goal.returns
 unfolding joined bare
-returns c = rw (c.meld.ensures.value, c.meld.ensures.right_after)
+returns c = rw (c.meld.ensures.root, c.meld.ensures.links_after)

@@ -7,9 +7,9 @@ use Rattle.heaps.proofs.meld.Goals as goal
 
 pub returns-then-b-eq0 : goal.returns-then-b-eq0
 unfolding root_of melded
-returns-then-b-eq0 c = record { value = rw (eq-eqb _ _ c.if-b-eq0.true); right_after = rw (eq-eqb _ _ c.if-b-eq0.true) }
+returns-then-b-eq0 c = record { root = rw (eq-eqb _ _ c.if-b-eq0.true); links_after = rw (eq-eqb _ _ c.if-b-eq0.true) }
 
 pub returns : goal.returns
 unfolding root_of melded
 returns c = let some = ne_eqb _ _ c.if-b-eq0.false in
-    record { value = rw (some, ← c.hang.ensures); right_after = rw (some, c.hang.ensures) }
+    record { root = rw (some, ← c.hang.ensures); links_after = rw (some, c.hang.ensures) }

@@ -8,9 +8,9 @@ use Rattle.heaps.proofs.take.Goals as goal
 
 pub returns-then-k-eq0 : goal.returns-then-k-eq0
 unfolding parted
-returns-then-k-eq0 c = let none = c.if-k-eq0.true in record { value = sym none; right_after = rw (eq-eqb _ _ none) }
+returns-then-k-eq0 c = let none = c.if-k-eq0.true in record { root = sym none; forest_after = rw (eq-eqb _ _ none) }
 
 pub returns : goal.returns
 unfolding parted
 returns c = let some = ne_eqb _ _ c.if-k-eq0.false in
-    record { value = refl; right_after = rw (some, c.meld_below.ensures.value, c.meld_below.ensures.right_after) }
+    record { root = refl; forest_after = rw (some, c.meld_below.ensures.root, c.meld_below.ensures.links_after) }

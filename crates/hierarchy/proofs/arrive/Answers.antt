@@ -8,8 +8,8 @@ use Rattle.hierarchy.proofs.arrive.Goals as goal
 
 pub returns-then-has_head : goal.returns-then-has_head
 unfolding front_rows front_row
-returns-then-has_head c = let has = sym c.has_head.ensures ∙ c.if-has_head.true in record { value = rw has; by_index = λ rows ids depths. rw has }
+returns-then-has_head c = let has = sym c.has_head.ensures ∙ c.if-has_head.true in record { front = rw has; rows_after = λ rows ids depths. rw has }
 
 pub returns : goal.returns
 unfolding front_rows front_row
-returns c = let none = sym c.has_head.ensures ∙ c.if-has_head.false in record { value = rw none; by_index = λ rows ids depths. rw (none, ← add-one c.args.place) (c.new_head.ensures rows ids depths) }
+returns c = let none = sym c.has_head.ensures ∙ c.if-has_head.false in record { front = rw none; rows_after = λ rows ids depths. rw (none, ← add-one c.args.place) (c.new_head.ensures rows ids depths) }

@@ -18,24 +18,24 @@ use Rattle.hierarchy.proofs.up.Goals as goal
 
 pub loop-d-init : goal.loop-d-init
 loop-d-init c =
-    let begins = c.requires.by_index.4 in
+    let begins = c.requires.climbs.4 in
     (less_leeway most_climb _ _ (omega (arith, begins.deep, begins.sound.shallow c.args.row begins.inside)) c.requires.leeway, rising_all _ _ _ _ _ _ _ _)
 
 pub offset_bounds-parents-r : goal.offset_bounds-parents-r
 offset_bounds-parents-r c =
-    let few_row : c.loop-d.r < most_rows = let known = c.requires.by_index in
+    let few_row : c.loop-d.r < most_rows = let known = c.requires.climbs in
     let here = c.loop-d.invariant.1.climbs known.0 known.1 known.2 known.3 known.4 in
     omega (arith, here.inside, here.sound.few_rows) in omega (arith, few_row)
 
 pub bounds-parents-r : goal.bounds-parents-r
 bounds-parents-r c =
-    let few_row : c.loop-d.r < most_rows = let known = c.requires.by_index in
+    let few_row : c.loop-d.r < most_rows = let known = c.requires.climbs in
     let here = c.loop-d.invariant.1.climbs known.0 known.1 known.2 known.3 known.4 in
     omega (arith, here.inside, here.sound.few_rows) in omega (arith, few_row)
 
 pub file-requires : goal.file-requires
 file-requires c =
-    let few_row : c.loop-d.r < most_rows = let known = c.requires.by_index in
+    let few_row : c.loop-d.r < most_rows = let known = c.requires.climbs in
     let here = c.loop-d.invariant.1.climbs known.0 known.1 known.2 known.3 known.4 in
     omega (arith, here.inside, here.sound.few_rows) in
     let few_parent : c.wide-p.result < most_rows = rw c.wide-p.ensures.0 (c.requires.inside c.loop-d.r) in record { p_lt_most_rows = few_parent; r_lt_most_rows = few_row }
@@ -50,10 +50,10 @@ returns-then-has_head c =
     (λ tree class_of. c.file.ensures tree class_of _ _) (sym c.has_head.ensures ∙ c.if-has_head.true)
 
 pub chooses-requires : goal.chooses-requires
-chooses-requires c = let now = c.loop-d in let known = c.requires.by_index in let some : 0 < now.d = c.loop-d-test.true in let may =
+chooses-requires c = let now = c.loop-d in let known = c.requires.climbs in let some : 0 < now.d = c.loop-d-test.true in let may =
     rising_chooses _ _ _ _ _ _ _ _ _ _ _ _ now.invariant.1 some _ c.wide-p.ensures.0 _
     (λ tree class_of. c.file.ensures tree class_of _ _) (sym c.has_head.ensures ∙ c.if-has_head.false) known.0 known.1 known.2 known.3
-    known.4 in record { by_index = (known.0, known.1, known.2, known.3, may); inside = c.requires.inside; leeway = less_leeway _ most_choice _ (omega arith) now.invariant.0 }
+    known.4 in record { chooses = (known.0, known.1, known.2, known.3, may); inside = c.requires.inside; leeway = less_leeway _ most_choice _ (omega arith) now.invariant.0 }
 
 pub overflow_sub-d : goal.overflow_sub-d
 overflow_sub-d c = omega arith
@@ -64,7 +64,7 @@ loop-d-smaller c = omega arith
 pub loop-d-preserved : goal.loop-d-preserved
 loop-d-preserved c =
     let now = c.loop-d in
-    let known = c.requires.by_index in
+    let known = c.requires.climbs in
     let some : 0 < now.d = c.loop-d-test.true in
     let none = sym c.has_head.ensures ∙ c.if-has_head.false in
     let may =

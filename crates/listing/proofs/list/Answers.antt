@@ -20,7 +20,7 @@ use Rattle.listing.proofs.list.Goals as goal
 
 pub overflow_mul-events : goal.overflow_mul-events
 overflow_mul-events c =
-    let few : 2 * length c.args.stamps.now ≤ most_events = c.requires.fact_3 in omega (arith, few)
+    let few : 2 * length c.args.stamps.now ≤ most_events = c.requires.events_few in omega (arith, few)
 
 pub loop-i-init : goal.loop-i-init
 loop-i-init c =
@@ -44,11 +44,11 @@ slice_bounds-take_event-end-in-loop-i c = c.loop-i.invariant.4
 pub take_event-turn-requires : goal.take_event-turn-requires
 take_event-turn-requires c =
     let tree : Tree = tree_at c.args.identifiers.now c.args.parents.now c.args.depths.now c.args.shares.now in
-    let ground : Ground tree c.args.identifiers.now c.args.senders.now = c.requires.fact_1 in
-    let stamped : Stamped c.args.stamps.now = c.requires.fact_2 in
-    let few : 2 * length c.args.stamps.now ≤ most_events = c.requires.fact_3 in
-    let classes_room : 2 * length c.args.stamps.now ≤ length c.args.classes.now = c.requires.fact_4 in
-    let lengths_room : 2 * length c.args.stamps.now ≤ length c.args.lengths.now = c.requires.fact_5 in let early = c.loop-i-test.true in record { ground_1 = ground; ground_2 = c.filed-on_air_rows.ensures; ground_3 = stamped; ground_4 = record {
+    let ground : Ground tree c.args.identifiers.now c.args.senders.now = c.requires.grounded in
+    let stamped : Stamped c.args.stamps.now = c.requires.stamped in
+    let few : 2 * length c.args.stamps.now ≤ most_events = c.requires.events_few in
+    let classes_room : 2 * length c.args.stamps.now ≤ length c.args.classes.now = c.requires.classes_room in
+    let lengths_room : 2 * length c.args.stamps.now ≤ length c.args.lengths.now = c.requires.lengths_room in let early = c.loop-i-test.true in record { grounded = ground; filed = c.filed-on_air_rows.ensures; stamped = stamped; roomy = record {
               events_room = omega (arith, early, few);
               links_room = omega (arith, early, few, c.loop-i.invariant.3);
               order_room = omega (arith, early, few, c.loop-i.invariant.4);
@@ -70,7 +70,7 @@ returns-then-refusal-ne0 c =
 
 pub overflow_add-i : goal.overflow_add-i
 overflow_add-i c =
-    let few : 2 * length c.args.stamps.now ≤ most_events = c.requires.fact_3 in omega (arith, c.loop-i-test.true, few)
+    let few : 2 * length c.args.stamps.now ≤ most_events = c.requires.events_few in omega (arith, c.loop-i-test.true, few)
 
 pub loop-i-smaller : goal.loop-i-smaller
 loop-i-smaller c = omega (arith, c.loop-i-test.true)

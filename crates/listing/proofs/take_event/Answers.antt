@@ -30,24 +30,24 @@ use Rattle.listing.proofs.take_event.Goals as goal
 
 pub offset_bounds-classes-i : goal.offset_bounds-classes-i
 offset_bounds-classes-i c =
-    let room : Roomy c.args.i c.args.working.now c.args.order.now c.args.classes.now c.args.lengths.now = c.requires.ground_4 in omega (arith, room.events_room)
+    let room : Roomy c.args.i c.args.working.now c.args.order.now c.args.classes.now c.args.lengths.now = c.requires.roomy in omega (arith, room.events_room)
 
 pub bounds-classes-i : goal.bounds-classes-i
 bounds-classes-i c =
-    let room : Roomy c.args.i c.args.working.now c.args.order.now c.args.classes.now c.args.lengths.now = c.requires.ground_4 in room.classes_room
+    let room : Roomy c.args.i c.args.working.now c.args.order.now c.args.classes.now c.args.lengths.now = c.requires.roomy in room.classes_room
 
 pub offset_bounds-lengths-i : goal.offset_bounds-lengths-i
 offset_bounds-lengths-i c =
-    let room : Roomy c.args.i c.args.working.now c.args.order.now c.args.classes.now c.args.lengths.now = c.requires.ground_4 in omega (arith, room.events_room)
+    let room : Roomy c.args.i c.args.working.now c.args.order.now c.args.classes.now c.args.lengths.now = c.requires.roomy in omega (arith, room.events_room)
 
 pub bounds-lengths-i : goal.bounds-lengths-i
 bounds-lengths-i c =
-    let room : Roomy c.args.i c.args.working.now c.args.order.now c.args.classes.now c.args.lengths.now = c.requires.ground_4 in room.lengths_room
+    let room : Roomy c.args.i c.args.working.now c.args.order.now c.args.classes.now c.args.lengths.now = c.requires.roomy in room.lengths_room
 
 pub check_event-check-requires : goal.check_event-check-requires
 check_event-check-requires c =
-    let filed : AllFiled c.args.identifiers.now c.args.on_air_rows.now = c.requires.ground_2 in
-    let room : Roomy c.args.i c.args.working.now c.args.order.now c.args.classes.now c.args.lengths.now = c.requires.ground_4 in (filed, room.events_room)
+    let filed : AllFiled c.args.identifiers.now c.args.on_air_rows.now = c.requires.filed in
+    let room : Roomy c.args.i c.args.working.now c.args.order.now c.args.classes.now c.args.lengths.now = c.requires.roomy in (filed, room.events_room)
 
 pub returns-then-refusal-ne0 : goal.returns-then-refusal-ne0
 returns-then-refusal-ne0 c =
@@ -56,9 +56,9 @@ returns-then-refusal-ne0 c =
     let rows : Rows = rows_of c.args.starts.now c.args.finishes.now c.args.virtuals.now c.args.heads.now c.args.head_lengths.now
     c.args.head_classes.now in
     let heaps : Forest = forest c.args.roots.now c.args.left.now c.args.right.now in
-    let ground : Ground tree c.args.identifiers.now c.args.senders.now = c.requires.ground_1 in
-    let stamped : Stamped c.args.stamps.now = c.requires.ground_3 in
-    let room : Roomy c.args.i c.args.working.now c.args.order.now c.args.classes.now c.args.lengths.now = c.requires.ground_4 in
+    let ground : Ground tree c.args.identifiers.now c.args.senders.now = c.requires.grounded in
+    let stamped : Stamped c.args.stamps.now = c.requires.stamped in
+    let room : Roomy c.args.i c.args.working.now c.args.order.now c.args.classes.now c.args.lengths.now = c.requires.roomy in
     let reached : Reached c.args.way tree arrivals c.args.rate c.args.i c.args.arrived c.args.due c.args.sent rows heaps c.args.bytes.now
     c.args.held.now c.args.since.now c.args.parent_since.now c.args.lasts.now c.args.working.now c.args.classes.now c.args.lengths.now = c.requires.reached in
     let next_is : NextIs c.args.stamps.now c.args.packet_classes.now c.args.packet_lengths.now
@@ -73,16 +73,16 @@ returns-then-refusal-ne0 c =
 
 pub overflow_add-i : goal.overflow_add-i
 overflow_add-i c =
-    let room : Roomy c.args.i c.args.working.now c.args.order.now c.args.classes.now c.args.lengths.now = c.requires.ground_4 in omega (arith, room.events_room)
+    let room : Roomy c.args.i c.args.working.now c.args.order.now c.args.classes.now c.args.lengths.now = c.requires.roomy in omega (arith, room.events_room)
 
 pub slice_bounds-step-end : goal.slice_bounds-step-end
 slice_bounds-step-end c =
-    let room : Roomy c.args.i c.args.working.now c.args.order.now c.args.classes.now c.args.lengths.now = c.requires.ground_4 in
+    let room : Roomy c.args.i c.args.working.now c.args.order.now c.args.classes.now c.args.lengths.now = c.requires.roomy in
     omega (arith, length-set c.args.lengths.now c.args.i c.next_event-next.result.length, room.lengths_room)
 
 pub slice_bounds-step-end-2 : goal.slice_bounds-step-end-2
 slice_bounds-step-end-2 c =
-    let room : Roomy c.args.i c.args.working.now c.args.order.now c.args.classes.now c.args.lengths.now = c.requires.ground_4 in
+    let room : Roomy c.args.i c.args.working.now c.args.order.now c.args.classes.now c.args.lengths.now = c.requires.roomy in
     let word = c.next_event-next.result.length in
     sym
     (length-take-le (c.args.i + 1) (set c.args.lengths.now c.args.i word)
@@ -95,9 +95,9 @@ step-now_sent-requires c =
     let rows : Rows = rows_of c.args.starts.now c.args.finishes.now c.args.virtuals.now c.args.heads.now c.args.head_lengths.now
     c.args.head_classes.now in
     let heaps : Forest = forest c.args.roots.now c.args.left.now c.args.right.now in
-    let ground : Ground tree c.args.identifiers.now c.args.senders.now = c.requires.ground_1 in
-    let stamped : Stamped c.args.stamps.now = c.requires.ground_3 in
-    let room : Roomy c.args.i c.args.working.now c.args.order.now c.args.classes.now c.args.lengths.now = c.requires.ground_4 in
+    let ground : Ground tree c.args.identifiers.now c.args.senders.now = c.requires.grounded in
+    let stamped : Stamped c.args.stamps.now = c.requires.stamped in
+    let room : Roomy c.args.i c.args.working.now c.args.order.now c.args.classes.now c.args.lengths.now = c.requires.roomy in
     let reached : Reached c.args.way tree arrivals c.args.rate c.args.i c.args.arrived c.args.due c.args.sent rows heaps c.args.bytes.now
     c.args.held.now c.args.since.now c.args.parent_since.now c.args.lasts.now c.args.working.now c.args.classes.now c.args.lengths.now = c.requires.reached in
     let list : Events = listed tree arrivals c.args.rate (suc c.args.i) in
@@ -120,9 +120,9 @@ arrived_after-requires c =
     let rows : Rows = rows_of c.args.starts.now c.args.finishes.now c.args.virtuals.now c.args.heads.now c.args.head_lengths.now
     c.args.head_classes.now in
     let heaps : Forest = forest c.args.roots.now c.args.left.now c.args.right.now in
-    let ground : Ground tree c.args.identifiers.now c.args.senders.now = c.requires.ground_1 in
-    let stamped : Stamped c.args.stamps.now = c.requires.ground_3 in
-    let room : Roomy c.args.i c.args.working.now c.args.order.now c.args.classes.now c.args.lengths.now = c.requires.ground_4 in
+    let ground : Ground tree c.args.identifiers.now c.args.senders.now = c.requires.grounded in
+    let stamped : Stamped c.args.stamps.now = c.requires.stamped in
+    let room : Roomy c.args.i c.args.working.now c.args.order.now c.args.classes.now c.args.lengths.now = c.requires.roomy in
     let reached : Reached c.args.way tree arrivals c.args.rate c.args.i c.args.arrived c.args.due c.args.sent rows heaps c.args.bytes.now
     c.args.held.now c.args.since.now c.args.parent_since.now c.args.lasts.now c.args.working.now c.args.classes.now c.args.lengths.now = c.requires.reached in
     let few : c.args.arrived ≤ 65536 = few_arrived ground stamped room reached in few
@@ -134,9 +134,9 @@ due_after-requires c =
     let rows : Rows = rows_of c.args.starts.now c.args.finishes.now c.args.virtuals.now c.args.heads.now c.args.head_lengths.now
     c.args.head_classes.now in
     let heaps : Forest = forest c.args.roots.now c.args.left.now c.args.right.now in
-    let ground : Ground tree c.args.identifiers.now c.args.senders.now = c.requires.ground_1 in
-    let stamped : Stamped c.args.stamps.now = c.requires.ground_3 in
-    let room : Roomy c.args.i c.args.working.now c.args.order.now c.args.classes.now c.args.lengths.now = c.requires.ground_4 in
+    let ground : Ground tree c.args.identifiers.now c.args.senders.now = c.requires.grounded in
+    let stamped : Stamped c.args.stamps.now = c.requires.stamped in
+    let room : Roomy c.args.i c.args.working.now c.args.order.now c.args.classes.now c.args.lengths.now = c.requires.roomy in
     let reached : Reached c.args.way tree arrivals c.args.rate c.args.i c.args.arrived c.args.due c.args.sent rows heaps c.args.bytes.now
     c.args.held.now c.args.since.now c.args.parent_since.now c.args.lasts.now c.args.working.now c.args.classes.now c.args.lengths.now = c.requires.reached in
     let list : Events = listed tree arrivals c.args.rate (suc c.args.i) in
@@ -167,9 +167,9 @@ returns c =
     let rows : Rows = rows_of c.args.starts.now c.args.finishes.now c.args.virtuals.now c.args.heads.now c.args.head_lengths.now
     c.args.head_classes.now in
     let heaps : Forest = forest c.args.roots.now c.args.left.now c.args.right.now in
-    let ground : Ground tree c.args.identifiers.now c.args.senders.now = c.requires.ground_1 in
-    let stamped : Stamped c.args.stamps.now = c.requires.ground_3 in
-    let room : Roomy c.args.i c.args.working.now c.args.order.now c.args.classes.now c.args.lengths.now = c.requires.ground_4 in
+    let ground : Ground tree c.args.identifiers.now c.args.senders.now = c.requires.grounded in
+    let stamped : Stamped c.args.stamps.now = c.requires.stamped in
+    let room : Roomy c.args.i c.args.working.now c.args.order.now c.args.classes.now c.args.lengths.now = c.requires.roomy in
     let reached : Reached c.args.way tree arrivals c.args.rate c.args.i c.args.arrived c.args.due c.args.sent rows heaps c.args.bytes.now
     c.args.held.now c.args.since.now c.args.parent_since.now c.args.lasts.now c.args.working.now c.args.classes.now c.args.lengths.now = c.requires.reached in
     let list : Events = listed tree arrivals c.args.rate (suc c.args.i) in

@@ -26,7 +26,7 @@ arrive-from-requires c =
     let rows : Rows = rows_of c.args.starts.now c.args.finishes.now c.args.virtuals.now c.args.heads.now c.args.head_lengths.now
     c.args.head_classes.now in
     let able : Arrives tree c.args.place c.args.k c.args.size c.requires.1 = c.requires.2 in
-    let arrays : Arrays c.requires.1 rows c.args.bytes.now c.args.held.now c.args.since.now c.args.parent_since.now = c.requires.3 in record { fact_1 = ready able arrays; fact_2 = few_rows able arrays; fact_3 = able.able.few; fact_4 = able.few_bytes }
+    let arrays : Arrays c.requires.1 rows c.args.bytes.now c.args.held.now c.args.since.now c.args.parent_since.now = c.requires.3 in record { ready = ready able arrays; k_is_row = few_rows able arrays; place_small = able.able.few; length_allowed = able.few_bytes }
 
 pub offset_bounds-depths-from : goal.offset_bounds-depths-from
 offset_bounds-depths-from c =
@@ -34,7 +34,7 @@ offset_bounds-depths-from c =
     let rows : Rows = rows_of c.args.starts.now c.args.finishes.now c.args.virtuals.now c.args.heads.now c.args.head_lengths.now
     c.args.head_classes.now in
     let able : Arrives tree c.args.place c.args.k c.args.size c.requires.1 = c.requires.2 in
-    let arrays : Arrays c.requires.1 rows c.args.bytes.now c.args.held.now c.args.since.now c.args.parent_since.now = c.requires.3 in omega (arith, c.arrive-from.ensures.value, few_from able arrays)
+    let arrays : Arrays c.requires.1 rows c.args.bytes.now c.args.held.now c.args.since.now c.args.parent_since.now = c.requires.3 in omega (arith, c.arrive-from.ensures.front, few_from able arrays)
 
 pub bounds-depths-from : goal.bounds-depths-from
 bounds-depths-from c =
@@ -42,7 +42,7 @@ bounds-depths-from c =
     let rows : Rows = rows_of c.args.starts.now c.args.finishes.now c.args.virtuals.now c.args.heads.now c.args.head_lengths.now
     c.args.head_classes.now in
     let able : Arrives tree c.args.place c.args.k c.args.size c.requires.1 = c.requires.2 in
-    let arrays : Arrays c.requires.1 rows c.args.bytes.now c.args.held.now c.args.since.now c.args.parent_since.now = c.requires.3 in omega (arith, c.arrive-from.ensures.value, few_from able arrays)
+    let arrays : Arrays c.requires.1 rows c.args.bytes.now c.args.held.now c.args.since.now c.args.parent_since.now = c.requires.3 in omega (arith, c.arrive-from.ensures.front, few_from able arrays)
 
 pub up-requires : goal.up-requires
 up-requires c =
@@ -50,12 +50,12 @@ up-requires c =
     let rows : Rows = rows_of c.args.starts.now c.args.finishes.now c.args.virtuals.now c.args.heads.now c.args.head_lengths.now
     c.args.head_classes.now in
     let able : Arrives tree c.args.place c.args.k c.args.size c.requires.1 = c.requires.2 in
-    let arrays : Arrays c.requires.1 rows c.args.bytes.now c.args.held.now c.args.since.now c.args.parent_since.now = c.requires.3 in let from = c.arrive-from.ensures.value in let front = c.arrive-from.ensures.by_index c.args.rows c.requires.0 in record { by_index = (c.args.rows, c.requires.0, _, (λ (r : ℕ). r), front_climbs able arrays _ _ _ _ from c.list_children.ensures); inside = able.able.ready.inside; leeway = front_leeway able arrays _ front }
+    let arrays : Arrays c.requires.1 rows c.args.bytes.now c.args.held.now c.args.since.now c.args.parent_since.now = c.requires.3 in let from = c.arrive-from.ensures.front in let front = c.arrive-from.ensures.rows_after c.args.rows c.requires.0 in record { climbs = (c.args.rows, c.requires.0, _, (λ (r : ℕ). r), front_climbs able arrays _ _ _ _ from c.list_children.ensures); inside = able.able.ready.inside; leeway = front_leeway able arrays _ front }
 
 pub returns : goal.returns
 returns c ids box given lent =
-    let from = c.arrive-from.ensures.value in
-    let front = c.arrive-from.ensures.by_index c.args.rows ids in
+    let from = c.arrive-from.ensures.front in
+    let front = c.arrive-from.ensures.rows_after c.args.rows ids in
     arrived given lent _ _ _ _ _ _ _ _ _ _ from front
     (c.up.ensures c.args.rows ids _ (λ (r : ℕ). r) (front_climbs given lent _ _ _ _ from c.list_children.ensures))
-    (c.arrive-from.ensures.by_index_2 c.args.rows ids box lent.counts_are) c.on_line.ensures
+    (c.arrive-from.ensures.counts_after c.args.rows ids box lent.counts_are) c.on_line.ensures

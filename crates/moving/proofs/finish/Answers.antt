@@ -26,7 +26,7 @@ depart-class-requires c =
     let rows : Rows = rows_of c.args.starts.now c.args.finishes.now c.args.virtuals.now c.args.heads.now c.args.head_lengths.now
     c.args.head_classes.now in
     let able : Finishes tree c.requires.3 c.args.next c.args.size c.requires.4 = c.requires.5 in
-    let arrays : Arrays c.requires.4 rows c.args.bytes.now c.args.held.now c.requires.1 c.requires.2 = c.requires.6 in record { fact_1 = ready able arrays; fact_2 = class_few able arrays; fact_3 = able.few_bytes }
+    let arrays : Arrays c.requires.4 rows c.args.bytes.now c.args.held.now c.requires.1 c.requires.2 = c.requires.6 in record { ready = ready able arrays; class_is_row = class_few able arrays; length_allowed = able.few_bytes }
 
 pub offset_bounds-depths-class : goal.offset_bounds-depths-class
 offset_bounds-depths-class c =
@@ -34,7 +34,7 @@ offset_bounds-depths-class c =
     let rows : Rows = rows_of c.args.starts.now c.args.finishes.now c.args.virtuals.now c.args.heads.now c.args.head_lengths.now
     c.args.head_classes.now in
     let able : Finishes tree c.requires.3 c.args.next c.args.size c.requires.4 = c.requires.5 in
-    let arrays : Arrays c.requires.4 rows c.args.bytes.now c.args.held.now c.requires.1 c.requires.2 = c.requires.6 in omega (arith, c.depart-class.ensures.value, class_few able arrays)
+    let arrays : Arrays c.requires.4 rows c.args.bytes.now c.args.held.now c.requires.1 c.requires.2 = c.requires.6 in omega (arith, c.depart-class.ensures.class_sent, class_few able arrays)
 
 pub bounds-depths-class : goal.bounds-depths-class
 bounds-depths-class c =
@@ -42,7 +42,7 @@ bounds-depths-class c =
     let rows : Rows = rows_of c.args.starts.now c.args.finishes.now c.args.virtuals.now c.args.heads.now c.args.head_lengths.now
     c.args.head_classes.now in
     let able : Finishes tree c.requires.3 c.args.next c.args.size c.requires.4 = c.requires.5 in
-    let arrays : Arrays c.requires.4 rows c.args.bytes.now c.args.held.now c.requires.1 c.requires.2 = c.requires.6 in omega (arith, c.depart-class.ensures.value, class_few able arrays)
+    let arrays : Arrays c.requires.4 rows c.args.bytes.now c.args.held.now c.requires.1 c.requires.2 = c.requires.6 in omega (arith, c.depart-class.ensures.class_sent, class_few able arrays)
 
 pub up-requires : goal.up-requires
 up-requires c =
@@ -50,19 +50,19 @@ up-requires c =
     let rows : Rows = rows_of c.args.starts.now c.args.finishes.now c.args.virtuals.now c.args.heads.now c.args.head_lengths.now
     c.args.head_classes.now in
     let able : Finishes tree c.requires.3 c.args.next c.args.size c.requires.4 = c.requires.5 in
-    let arrays : Arrays c.requires.4 rows c.args.bytes.now c.args.held.now c.requires.1 c.requires.2 = c.requires.6 in let onward = c.depart-class.ensures.by_index c.args.rows c.requires.0 (left c.requires.4) able.next_is in record { by_index = (
+    let arrays : Arrays c.requires.4 rows c.args.bytes.now c.args.held.now c.requires.1 c.requires.2 = c.requires.6 in let onward = c.depart-class.ensures.rows_after c.args.rows c.requires.0 (left c.requires.4) able.next_is in record { climbs = (
         c.args.rows,
         c.requires.0,
         _,
         (λ (r : ℕ). r),
-        onward_climbs able arrays _ _ _ _ c.depart-class.ensures.value c.list_children.ensures,
+        onward_climbs able arrays _ _ _ _ c.depart-class.ensures.class_sent c.list_children.ensures,
       ); inside = able.able.ready.inside; leeway = onward_leeway able arrays _ _ onward }
 
 pub returns : goal.returns
 returns c ids since parent_since place box given lent =
     let n = c.args.rows in
-    let class = c.depart-class.ensures.value in
+    let class = c.depart-class.ensures.class_sent in
     let climbs = onward_climbs given lent _ _ _ _ class c.list_children.ensures in
-    finished given lent _ _ _ _ _ _ _ _ _ class (c.depart-class.ensures.by_index n ids (left box) given.next_is)
+    finished given lent _ _ _ _ _ _ _ _ _ class (c.depart-class.ensures.rows_after n ids (left box) given.next_is)
     (c.up.ensures n ids _ (λ (r : ℕ). r) climbs)
-    (c.depart-class.ensures.by_index_2 n ids box since parent_since lent.rows_are lent.counts_are) c.on_line.ensures
+    (c.depart-class.ensures.counts_after n ids box since parent_since lent.rows_are lent.counts_are) c.on_line.ensures

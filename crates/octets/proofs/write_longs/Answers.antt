@@ -19,7 +19,7 @@ loop-i-preserved c =
     (
       search rules,
       c.put_long.ensures
-          ∙ write_turn 8 c.args.words.now c.args.bytes.now c.loop-i.bytes c.loop-i.i (omega (arith, c.requires.fact_1)) (omega (arith, c.requires.fact_2)) c.loop-i.invariant.1,
+          ∙ write_turn 8 c.args.words.now c.args.bytes.now c.loop-i.bytes c.loop-i.i (omega (arith, c.requires.words_enough)) (omega (arith, c.requires.bytes_room)) c.loop-i.invariant.1,
       c.put_long.auto.bytes ∙ c.loop-i.invariant.2,
     )
 

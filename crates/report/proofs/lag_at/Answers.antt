@@ -17,18 +17,18 @@ pub returns-then-count-eq0 : goal.returns-then-count-eq0
 returns-then-count-eq0 c tree box by counts = idle_lag tree box _ c.if-r-eq0.false (rw (counts.held, ← c.count.ensures) c.if-count-eq0.true)
 
 pub word-requires : goal.word-requires
-word-requires c = (let it : c.wide-p.result < most_rows = omega (arith, c.wide-p.ensures.0, c.requires.fact_2 c.args.r c.requires.fact_1) in it)
+word-requires c = (let it : c.wide-p.result < most_rows = omega (arith, c.wide-p.ensures.0, c.requires.parents_inside c.args.r c.requires.r_is_row) in it)
 
 pub overflow_sub-parent_bytes : goal.overflow_sub-parent_bytes
 overflow_sub-parent_bytes c =
-    rw (c.word-2.ensures, c.word.ensures, c.wide-p.ensures.0) (c.requires.fact_5.above_grew c.args.r (omega arith))
+    rw (c.word-2.ensures, c.word.ensures, c.wide-p.ensures.0) (c.requires.past.above_grew c.args.r (omega arith))
 
 pub overflow_sub-own_bytes : goal.overflow_sub-own_bytes
 overflow_sub-own_bytes c =
-    rw (c.word-4.ensures, c.word-3.ensures) (c.requires.fact_5.own_grew c.args.r (omega arith))
+    rw (c.word-4.ensures, c.word-3.ensures) (c.requires.past.own_grew c.args.r (omega arith))
 
 pub lag_of-requires : goal.lag_of-requires
-lag_of-requires c = let small = c.requires.fact_4 in record { fact_1 = rw c.count-2.ensures (c.requires.fact_3 c.args.r c.requires.fact_1); fact_2 = omega (arith, c.wide-p.ensures.0, c.word.ensures, small c.wide-p.result ((let it : c.wide-p.result < most_rows = omega (arith, c.wide-p.ensures.0, c.requires.fact_2 c.args.r c.requires.fact_1) in it))); fact_3 = omega (arith, c.word-3.ensures, small c.args.r c.requires.fact_1) }
+lag_of-requires c = let small = c.requires.bytes_small in record { share_allowed = rw c.count-2.ensures (c.requires.shares_allowed c.args.r c.requires.r_is_row); parent_small = omega (arith, c.wide-p.ensures.0, c.word.ensures, small c.wide-p.result ((let it : c.wide-p.result < most_rows = omega (arith, c.wide-p.ensures.0, c.requires.parents_inside c.args.r c.requires.r_is_row) in it))); own_small = omega (arith, c.word-3.ensures, small c.args.r c.requires.r_is_row) }
 
 pub returns : goal.returns
 returns c tree box by counts =

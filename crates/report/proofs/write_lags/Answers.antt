@@ -23,7 +23,7 @@ unfolding over lags_of
 loop-r-init c = (search rules, refl, λ tree box by counts. refl)
 
 pub lag_at-requires : goal.lag_at-requires
-lag_at-requires c = let past = c.requires.at_most_4 in record { fact_1 = search rules; fact_2 = c.requires.at_most_1; fact_3 = c.requires.at_most_2; fact_4 = c.requires.at_most_3; fact_5 = record { own_grew = λ i below. past.own_grew i (omega arith); above_grew = λ i below. past.above_grew i (omega arith) } }
+lag_at-requires c = let past = c.requires.past in record { r_is_row = search rules; parents_inside = c.requires.parents_inside; shares_allowed = c.requires.shares_allowed; bytes_small = c.requires.bytes_small; past = record { own_grew = λ i below. past.own_grew i (omega arith); above_grew = λ i below. past.above_grew i (omega arith) } }
 
 pub loop-r-preserved : goal.loop-r-preserved
 unfolding lags_of

@@ -12,7 +12,7 @@ use Rattle.storing.proofs.fill_longs.Goals as goal
 
 pub loop-r-init : goal.loop-r-init
 unfolding zeros
-loop-r-init c = (omega arith, c.requires.fact_3 ∙ rows_none c.args.at c.args.state.now)
+loop-r-init c = (omega arith, c.requires.list_zero ∙ rows_none c.args.at c.args.state.now)
 
 pub loop-r-preserved : goal.loop-r-preserved
 loop-r-preserved c =

@@ -7,4 +7,4 @@ use Rattle.storing.proofs.load_words.Goals as goal
 
 pub fill_words-fits-requires : goal.fill_words-fits-requires
 unfolding zeros
-fill_words-fits-requires c = record { fact_1 = c.requires.fact_1; fact_2 = c.requires.fact_2; fact_3 = c.requires.fact_3; fact_4 = refl }
+fill_words-fits-requires c = record { rows_few = c.requires.rows_few; state_room = c.requires.state_room; most_small = c.requires.most_small; list_zero = refl }

@@ -16,13 +16,13 @@ loop-i-init c = refl
 
 pub next_at-requires : goal.next_at-requires
 next_at-requires c =
-    let worded = worded_in c.args.m c.args.state.now c.loop-i.i (omega arith) c.requires.fact_3 in
+    let worded = worded_in c.args.m c.args.state.now c.loop-i.i (omega arith) c.requires.worded in
     (worded.0, omega (arith, worded.1))
 
 pub returns-then-state-i : goal.returns-then-state-i
 returns-then-state-i c =
     let s = c.args in
-    let worded = worded_in s.m s.state.now c.loop-i.i (omega arith) c.requires.fact_3 in
+    let worded = worded_in s.m s.state.now c.loop-i.i (omega arith) c.requires.worded in
     let mine = c.if-state-i.true ∙ c.counted-wanted.ensures in (
       rw (← c.loop-i.invariant)
           (next_word c.next_at.result.word c.next_at.result.size _ _ c.next_at.ensures.0 c.next_at.ensures.1

@@ -7,4 +7,4 @@ use Rattle.waiting.proofs.ripen_one.Goals as goal
 pub returns : goal.returns
 unfolding ripens
 returns c =
-    rw (← c.take-k.ensures.value, ← c.take-k.ensures.right_after) c.insert.ensures
+    rw (← c.take-k.ensures.root, ← c.take-k.ensures.forest_after) c.insert.ensures

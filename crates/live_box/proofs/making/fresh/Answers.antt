@@ -55,7 +55,7 @@ store_fresh-requires c =
     let equal : (rows_refused table).number ≡ 0 = rows_fine table words lent lent_is c.if-lent-ne0.false in
     let few : length table.identifiers ≤ most_rows = (sized table equal).most in
     let roomy : state_words ≤ length words = room table words lent lent_is c.if-lent-ne0.false in
-    record { identifiers_len_bound_1 = few; identifiers_len_bound_2 = roomy; parents_len_1 = search rules; parents_len_2 = search rules; parents_len_3 = search rules }
+    record { rows_few = few; state_room = roomy; parents_full = search rules; depths_full = search rules; shares_full = search rules }
 
 pub returns : goal.returns
 returns c =

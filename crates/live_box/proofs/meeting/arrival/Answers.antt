@@ -52,7 +52,7 @@ take_arrival-requires c = let a = c.args in let check = c.check_packet-check in 
     (class_found a.words.now a.state c.requires a.class a.size c.row_of-row.result c.row_of-row.ensures.0)
     ).refusal
     (full.ensures live a.class a.size (sym c.requires.opened.accepted) (sym c.requires.opened.packets))
-    or_else.ensures in record { fact_1 = c.requires.long; fact_2 = arrival_takes a.words.now a.state c.requires a.class a.size c.row_of-row.result c.row_of-row.ensures.0 or_else.result refused c.if-refusal-ne0.false }
+    or_else.ensures in record { state_room = c.requires.long; takes = arrival_takes a.words.now a.state c.requires a.class a.size c.row_of-row.result c.row_of-row.ensures.0 or_else.result refused c.if-refusal-ne0.false }
 
 pub returns : goal.returns
 returns c =

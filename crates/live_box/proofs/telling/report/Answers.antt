@@ -48,7 +48,7 @@ tell-requires c =
     let room : short words report_lent lags_lent ≡ false = sym c.too_short.ensures ∙ c.if-too_short.false in
     let read_sound : c.open-opened.result.sound ≡ true = (not-false _ c.if-not-opened.false) in
     let is_sound : sound (live_in words) ≡ true = sym c.open-opened.ensures.0 ∙ read_sound in
-    let opened : Opened (live_in words) c.open-opened.result = c.open-opened.ensures.1 read_sound in let at = state_room words report_lent lags_lent room in record { fact_1 = tellable (live_in words) c.open-opened.result opened (holds_in words at is_sound); fact_2 = report_room words report_lent lags_lent room; fact_3 = lags_room words report_lent lags_lent room }
+    let opened : Opened (live_in words) c.open-opened.result = c.open-opened.ensures.1 read_sound in let at = state_room words report_lent lags_lent room in record { tellable = tellable (live_in words) c.open-opened.result opened (holds_in words at is_sound); report_room = report_room words report_lent lags_lent room; lags_room = lags_room words report_lent lags_lent room }
 
 pub returns : goal.returns
 returns c =

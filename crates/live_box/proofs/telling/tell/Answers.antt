@@ -7,10 +7,10 @@ use borrow.Author.Rules.{rules}
 use Rattle.live_box.proofs.telling.tell.Goals as goal
 
 pub write_report-requires : goal.write_report-requires
-write_report-requires c = let can = c.requires.fact_1 in record { fact_1 = can.few; fact_2 = omega (arith, can.few, c.requires.fact_2); fact_3 = can.root }
+write_report-requires c = let can = c.requires.tellable in record { rows_few = can.few; report_room = omega (arith, can.few, c.requires.report_room); line_sends_nothing = can.root }
 
 pub write_lags-requires : goal.write_lags-requires
-write_lags-requires c = let can = c.requires.fact_1 in record { rows_le_most_rows_1 = can.few; rows_le_most_rows_2 = omega (arith, can.few, c.requires.fact_3); at_most_1 = can.parents; at_most_2 = can.shares; at_most_3 = can.bytes; at_most_4 = can.past }
+write_lags-requires c = let can = c.requires.tellable in record { rows_few = can.few; lags_room = omega (arith, can.few, c.requires.lags_room); parents_inside = can.parents; shares_allowed = can.shares; bytes_small = can.bytes; past = can.past }
 
 pub returns : goal.returns
 returns c =

@@ -25,15 +25,15 @@ pub read_record-requires : goal.read_record-requires
 read_record-requires c =
     let capture : List ℕ = c.args.capture.now in
     let k : ℕ = c.loop-k.k in
-    let is_whole : Whole capture k = let counted = c.requires.fact_1.counted in counted_whole capture c.requires.fact_1.fine k (omega (arith, c.loop-k-test.true)) in
+    let is_whole : Whole capture k = let counted = c.requires.found.counted in counted_whole capture c.requires.found.fine k (omega (arith, c.loop-k-test.true)) in
     let there : c.loop-k.at + record_bytes + included_at capture c.loop-k.at ≤ length capture = whole_at capture k c.loop-k.at c.loop-k.invariant.1 is_whole in
-    let two : 1 < length (packet_at capture c.loop-k.at) = two_bytes capture k c.loop-k.at c.loop-k.invariant.1 is_whole in let inv = c.loop-k.invariant in let here = there in record { fact_1 = (c.requires.fact_1.laid, omega arith, two); fact_2 = (omega (arith, c.requires.fact_2.0, inv.2), omega (arith, c.requires.fact_2.1, inv.3), omega (arith, c.requires.fact_2.2, inv.4)) }
+    let two : 1 < length (packet_at capture c.loop-k.at) = two_bytes capture k c.loop-k.at c.loop-k.invariant.1 is_whole in let inv = c.loop-k.invariant in let here = there in record { in_capture = (c.requires.found.laid, omega arith, two); columns_room = (omega (arith, c.requires.columns_room.0, inv.2), omega (arith, c.requires.columns_room.1, inv.3), omega (arith, c.requires.columns_room.2, inv.4)) }
 
 pub overflow_add-at : goal.overflow_add-at
 overflow_add-at c =
     let capture : List ℕ = c.args.capture.now in
     let k : ℕ = c.loop-k.k in
-    let is_whole : Whole capture k = let counted = c.requires.fact_1.counted in counted_whole capture c.requires.fact_1.fine k (omega (arith, c.loop-k-test.true)) in
+    let is_whole : Whole capture k = let counted = c.requires.found.counted in counted_whole capture c.requires.found.fine k (omega (arith, c.loop-k-test.true)) in
     let there : c.loop-k.at + record_bytes + included_at capture c.loop-k.at ≤ length capture = whole_at capture k c.loop-k.at c.loop-k.invariant.1 is_whole in
     let here = there in
     omega (arith, here)
@@ -42,7 +42,7 @@ pub included-requires : goal.included-requires
 included-requires c =
     let capture : List ℕ = c.args.capture.now in
     let k : ℕ = c.loop-k.k in
-    let is_whole : Whole capture k = let counted = c.requires.fact_1.counted in counted_whole capture c.requires.fact_1.fine k (omega (arith, c.loop-k-test.true)) in
+    let is_whole : Whole capture k = let counted = c.requires.found.counted in counted_whole capture c.requires.found.fine k (omega (arith, c.loop-k-test.true)) in
     let there : c.loop-k.at + record_bytes + included_at capture c.loop-k.at ≤ length capture = whole_at capture k c.loop-k.at c.loop-k.invariant.1 is_whole in
     let here = there in
     omega (arith, here)
@@ -51,7 +51,7 @@ pub overflow_add-at-in-loop-k : goal.overflow_add-at-in-loop-k
 overflow_add-at-in-loop-k c =
     let capture : List ℕ = c.args.capture.now in
     let k : ℕ = c.loop-k.k in
-    let is_whole : Whole capture k = let counted = c.requires.fact_1.counted in counted_whole capture c.requires.fact_1.fine k (omega (arith, c.loop-k-test.true)) in
+    let is_whole : Whole capture k = let counted = c.requires.found.counted in counted_whole capture c.requires.found.fine k (omega (arith, c.loop-k-test.true)) in
     let there : c.loop-k.at + record_bytes + included_at capture c.loop-k.at ≤ length capture = whole_at capture k c.loop-k.at c.loop-k.invariant.1 is_whole in
     let here = there in
     omega (arith, here, c.included.ensures.0)
@@ -63,17 +63,17 @@ loop-k-preserved c =
     let l = c.loop-k in
     (
       omega arith,
-      begins_next capture l.k l.at c.included.result inv.1 (c.included.ensures.1 c.requires.fact_1.laid),
+      begins_next capture l.k l.at c.included.result inv.1 (c.included.ensures.1 c.requires.found.laid),
       ap length c.read_record.ensures.0 ∙ simp length-set inv.2,
       ap length c.read_record.ensures.1 ∙ simp length-set inv.3,
       ap length c.read_record.ensures.2 ∙ simp length-set inv.4,
       read_more capture c.args.sorting (arrivals_with c.args.stamps.now c.args.classes.now c.args.lengths.now)
-          (arrivals_with l.stamps l.classes l.lengths) _ l.k l.at inv.5 inv.1 (omega (arith, c.requires.fact_2.0))
-          (omega (arith, c.requires.fact_2.1)) (omega (arith, c.requires.fact_2.2)) (omega (arith, c.requires.fact_2.0, inv.2)) c.read_record.ensures.3 c.read_record.ensures.0 c.read_record.ensures.1 c.read_record.ensures.2,
+          (arrivals_with l.stamps l.classes l.lengths) _ l.k l.at inv.5 inv.1 (omega (arith, c.requires.columns_room.0))
+          (omega (arith, c.requires.columns_room.1)) (omega (arith, c.requires.columns_room.2)) (omega (arith, c.requires.columns_room.0, inv.2)) c.read_record.ensures.3 c.read_record.ensures.0 c.read_record.ensures.1 c.read_record.ensures.2,
     )
 
 pub returns : goal.returns
 returns c =
     let all : c.loop-k.k ≡ c.args.records = omega arith in
     read_all c.args.capture.now c.args.sorting (arrivals_with c.args.stamps.now c.args.classes.now c.args.lengths.now)
-    (arrivals_with c.loop-k.stamps c.loop-k.classes c.loop-k.lengths) c.loop-k.k c.loop-k.invariant.5 (all ∙ c.requires.fact_1.counted)
+    (arrivals_with c.loop-k.stamps c.loop-k.classes c.loop-k.lengths) c.loop-k.k c.loop-k.invariant.5 (all ∙ c.requires.found.counted)

@@ -30,7 +30,7 @@ returns-then-not-is_new c tree e1 e2 =
     sym (all_same n (named tree) (newly ids) (λ q inside. named_newly tree ids n q e2 inside) ∙ all_fails n (newly ids) r (omega arith) this)
 
 pub meet-requires : goal.meet-requires
-meet-requires c = let x = get_or c.args.identifiers.now c.loop-r.r 0 in let new = sym c.is_new.ensures ∙ c.if-not-is_new.false in let later = both_right (ltb 0 x) (leb x most_identifier && not (met c.loop-r.table x)) new in record { x_le_most_identifier = leb-true x most_identifier (both_left (leb x most_identifier) (not (met c.loop-r.table x)) later); table_len = c.loop-r.invariant.1; x_value = not-true (met c.loop-r.table x) (both_right (leb x most_identifier) (not (met c.loop-r.table x)) later) }
+meet-requires c = let x = get_or c.args.identifiers.now c.loop-r.r 0 in let new = sym c.is_new.ensures ∙ c.if-not-is_new.false in let later = both_right (ltb 0 x) (leb x most_identifier && not (met c.loop-r.table x)) new in record { identifier_small = leb-true x most_identifier (both_left (leb x most_identifier) (not (met c.loop-r.table x)) later); table_full = c.loop-r.invariant.1; not_met = not-true (met c.loop-r.table x) (both_right (leb x most_identifier) (not (met c.loop-r.table x)) later) }
 
 pub loop-r-preserved : goal.loop-r-preserved
 loop-r-preserved c =
@@ -39,9 +39,9 @@ loop-r-preserved c =
     let new = c.is_new in
     let this = sym (newly_test ids c.loop-r.table r c.loop-r.invariant.3) ∙ sym new.ensures ∙ c.if-not-is_new.false in (
       omega arith,
-      c.meet.ensures.table_len_2,
+      c.meet.ensures.table_stays_full,
       rw add-one (all_next r (newly ids) c.loop-r.invariant.2 this),
-      λ x. rw (add-one, c.meet.ensures.by_index x) (met_turn ids r x (met c.loop-r.table x) (c.loop-r.invariant.3 x)),
+      λ x. rw (add-one, c.meet.ensures.met_after x) (met_turn ids r x (met c.loop-r.table x) (c.loop-r.invariant.3 x)),
     )
 
 pub returns : goal.returns

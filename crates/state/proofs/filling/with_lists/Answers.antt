@@ -26,19 +26,19 @@ returns-then-not-counts c =
 
 pub fill_words-first-requires : goal.fill_words-first-requires
 unfolding filled
-fill_words-first-requires c = let counts = c.counts_in-counts in let used = counted_use c.args.words.now counts.result c.requires counts.ensures (not-false _ c.if-not-counts.false) in record { fact_1 = used.few; fact_2 = omega (arith, c.requires); fact_3 = omega arith; fact_4 = ap (λ (r : State). r.identifiers) c.blank-state.ensures }
+fill_words-first-requires c = let counts = c.counts_in-counts in let used = counted_use c.args.words.now counts.result c.requires counts.ensures (not-false _ c.if-not-counts.false) in record { rows_few = used.few; state_room = omega (arith, c.requires); most_small = omega arith; list_zero = ap (λ (r : State). r.identifiers) c.blank-state.ensures }
 
 pub fill_words-second-requires : goal.fill_words-second-requires
 unfolding filled
-fill_words-second-requires c = let counts = c.counts_in-counts in let used = counted_use c.args.words.now counts.result c.requires counts.ensures (not-false _ c.if-not-counts.false) in record { fact_1 = used.few; fact_2 = omega (arith, c.requires); fact_3 = omega arith; fact_4 = ap (λ (r : State). r.parents) c.blank-state.ensures }
+fill_words-second-requires c = let counts = c.counts_in-counts in let used = counted_use c.args.words.now counts.result c.requires counts.ensures (not-false _ c.if-not-counts.false) in record { rows_few = used.few; state_room = omega (arith, c.requires); most_small = omega arith; list_zero = ap (λ (r : State). r.parents) c.blank-state.ensures }
 
 pub fill_words-third-requires : goal.fill_words-third-requires
 unfolding filled
-fill_words-third-requires c = let counts = c.counts_in-counts in let used = counted_use c.args.words.now counts.result c.requires counts.ensures (not-false _ c.if-not-counts.false) in record { fact_1 = used.few; fact_2 = omega (arith, c.requires); fact_3 = omega arith; fact_4 = ap (λ (r : State). r.depths) c.blank-state.ensures }
+fill_words-third-requires c = let counts = c.counts_in-counts in let used = counted_use c.args.words.now counts.result c.requires counts.ensures (not-false _ c.if-not-counts.false) in record { rows_few = used.few; state_room = omega (arith, c.requires); most_small = omega arith; list_zero = ap (λ (r : State). r.depths) c.blank-state.ensures }
 
 pub fill_words-fourth-requires : goal.fill_words-fourth-requires
 unfolding filled
-fill_words-fourth-requires c = let counts = c.counts_in-counts in let used = counted_use c.args.words.now counts.result c.requires counts.ensures (not-false _ c.if-not-counts.false) in record { fact_1 = used.few; fact_2 = omega (arith, c.requires); fact_3 = omega arith; fact_4 = ap (λ (r : State). r.shares) c.blank-state.ensures }
+fill_words-fourth-requires c = let counts = c.counts_in-counts in let used = counted_use c.args.words.now counts.result c.requires counts.ensures (not-false _ c.if-not-counts.false) in record { rows_few = used.few; state_room = omega (arith, c.requires); most_small = omega arith; list_zero = ap (λ (r : State). r.shares) c.blank-state.ensures }
 
 pub returns-then-not-all_four : goal.returns-then-not-all_four
 unfolding filled
@@ -54,19 +54,19 @@ returns-then-not-all_four c =
 
 pub fill_words-first-requires-2 : goal.fill_words-first-requires-2
 unfolding filled
-fill_words-first-requires-2 c = let counts = c.counts_in-counts in let used = counted_use c.args.words.now counts.result c.requires counts.ensures (not-false _ c.if-not-counts.false) in record { fact_1 = used.few; fact_2 = omega (arith, c.requires); fact_3 = omega arith; fact_4 = ap (λ (r : State). r.heads) c.blank-state.ensures }
+fill_words-first-requires-2 c = let counts = c.counts_in-counts in let used = counted_use c.args.words.now counts.result c.requires counts.ensures (not-false _ c.if-not-counts.false) in record { rows_few = used.few; state_room = omega (arith, c.requires); most_small = omega arith; list_zero = ap (λ (r : State). r.heads) c.blank-state.ensures }
 
 pub fill_words-second-requires-2 : goal.fill_words-second-requires-2
 unfolding filled
-fill_words-second-requires-2 c = let counts = c.counts_in-counts in let used = counted_use c.args.words.now counts.result c.requires counts.ensures (not-false _ c.if-not-counts.false) in record { fact_1 = used.few; fact_2 = omega (arith, c.requires); fact_3 = omega arith; fact_4 = ap (λ (r : State). r.head_lengths) c.blank-state.ensures }
+fill_words-second-requires-2 c = let counts = c.counts_in-counts in let used = counted_use c.args.words.now counts.result c.requires counts.ensures (not-false _ c.if-not-counts.false) in record { rows_few = used.few; state_room = omega (arith, c.requires); most_small = omega arith; list_zero = ap (λ (r : State). r.head_lengths) c.blank-state.ensures }
 
 pub fill_words-third-requires-2 : goal.fill_words-third-requires-2
 unfolding filled
-fill_words-third-requires-2 c = let counts = c.counts_in-counts in let used = counted_use c.args.words.now counts.result c.requires counts.ensures (not-false _ c.if-not-counts.false) in record { fact_1 = used.few; fact_2 = omega (arith, c.requires); fact_3 = omega arith; fact_4 = ap (λ (r : State). r.head_classes) c.blank-state.ensures }
+fill_words-third-requires-2 c = let counts = c.counts_in-counts in let used = counted_use c.args.words.now counts.result c.requires counts.ensures (not-false _ c.if-not-counts.false) in record { rows_few = used.few; state_room = omega (arith, c.requires); most_small = omega arith; list_zero = ap (λ (r : State). r.head_classes) c.blank-state.ensures }
 
 pub fill_words-fourth-requires-2 : goal.fill_words-fourth-requires-2
 unfolding filled
-fill_words-fourth-requires-2 c = let counts = c.counts_in-counts in let used = counted_use c.args.words.now counts.result c.requires counts.ensures (not-false _ c.if-not-counts.false) in record { fact_1 = used.few; fact_2 = omega (arith, c.requires); fact_3 = omega arith; fact_4 = ap (λ (r : State). r.held) c.blank-state.ensures }
+fill_words-fourth-requires-2 c = let counts = c.counts_in-counts in let used = counted_use c.args.words.now counts.result c.requires counts.ensures (not-false _ c.if-not-counts.false) in record { rows_few = used.few; state_room = omega (arith, c.requires); most_small = omega arith; list_zero = ap (λ (r : State). r.held) c.blank-state.ensures }
 
 pub returns-then-not-all_four-2 : goal.returns-then-not-all_four-2
 unfolding filled
@@ -82,27 +82,27 @@ returns-then-not-all_four-2 c =
 
 pub fill_longs-requires : goal.fill_longs-requires
 unfolding filled
-fill_longs-requires c = let counts = c.counts_in-counts in let used = counted_use c.args.words.now counts.result c.requires counts.ensures (not-false _ c.if-not-counts.false) in record { fact_1 = used.few; fact_2 = omega (arith, c.requires); fact_3 = ap (λ (r : State). r.starts) c.blank-state.ensures }
+fill_longs-requires c = let counts = c.counts_in-counts in let used = counted_use c.args.words.now counts.result c.requires counts.ensures (not-false _ c.if-not-counts.false) in record { rows_few = used.few; state_room = omega (arith, c.requires); list_zero = ap (λ (r : State). r.starts) c.blank-state.ensures }
 
 pub fill_longs-requires-2 : goal.fill_longs-requires-2
 unfolding filled
-fill_longs-requires-2 c = let counts = c.counts_in-counts in let used = counted_use c.args.words.now counts.result c.requires counts.ensures (not-false _ c.if-not-counts.false) in record { fact_1 = used.few; fact_2 = omega (arith, c.requires); fact_3 = ap (λ (r : State). r.finishes) c.blank-state.ensures }
+fill_longs-requires-2 c = let counts = c.counts_in-counts in let used = counted_use c.args.words.now counts.result c.requires counts.ensures (not-false _ c.if-not-counts.false) in record { rows_few = used.few; state_room = omega (arith, c.requires); list_zero = ap (λ (r : State). r.finishes) c.blank-state.ensures }
 
 pub fill_longs-requires-3 : goal.fill_longs-requires-3
 unfolding filled
-fill_longs-requires-3 c = let counts = c.counts_in-counts in let used = counted_use c.args.words.now counts.result c.requires counts.ensures (not-false _ c.if-not-counts.false) in record { fact_1 = used.few; fact_2 = omega (arith, c.requires); fact_3 = ap (λ (r : State). r.virtuals) c.blank-state.ensures }
+fill_longs-requires-3 c = let counts = c.counts_in-counts in let used = counted_use c.args.words.now counts.result c.requires counts.ensures (not-false _ c.if-not-counts.false) in record { rows_few = used.few; state_room = omega (arith, c.requires); list_zero = ap (λ (r : State). r.virtuals) c.blank-state.ensures }
 
 pub fill_longs-requires-4 : goal.fill_longs-requires-4
 unfolding filled
-fill_longs-requires-4 c = let counts = c.counts_in-counts in let used = counted_use c.args.words.now counts.result c.requires counts.ensures (not-false _ c.if-not-counts.false) in record { fact_1 = used.few; fact_2 = omega (arith, c.requires); fact_3 = ap (λ (r : State). r.bytes) c.blank-state.ensures }
+fill_longs-requires-4 c = let counts = c.counts_in-counts in let used = counted_use c.args.words.now counts.result c.requires counts.ensures (not-false _ c.if-not-counts.false) in record { rows_few = used.few; state_room = omega (arith, c.requires); list_zero = ap (λ (r : State). r.bytes) c.blank-state.ensures }
 
 pub fill_longs-requires-5 : goal.fill_longs-requires-5
 unfolding filled
-fill_longs-requires-5 c = let counts = c.counts_in-counts in let used = counted_use c.args.words.now counts.result c.requires counts.ensures (not-false _ c.if-not-counts.false) in record { fact_1 = used.few; fact_2 = omega (arith, c.requires); fact_3 = ap (λ (r : State). r.since) c.blank-state.ensures }
+fill_longs-requires-5 c = let counts = c.counts_in-counts in let used = counted_use c.args.words.now counts.result c.requires counts.ensures (not-false _ c.if-not-counts.false) in record { rows_few = used.few; state_room = omega (arith, c.requires); list_zero = ap (λ (r : State). r.since) c.blank-state.ensures }
 
 pub fill_longs-requires-6 : goal.fill_longs-requires-6
 unfolding filled
-fill_longs-requires-6 c = let counts = c.counts_in-counts in let used = counted_use c.args.words.now counts.result c.requires counts.ensures (not-false _ c.if-not-counts.false) in record { fact_1 = used.few; fact_2 = omega (arith, c.requires); fact_3 = ap (λ (r : State). r.parent_since) c.blank-state.ensures }
+fill_longs-requires-6 c = let counts = c.counts_in-counts in let used = counted_use c.args.words.now counts.result c.requires counts.ensures (not-false _ c.if-not-counts.false) in record { rows_few = used.few; state_room = omega (arith, c.requires); list_zero = ap (λ (r : State). r.parent_since) c.blank-state.ensures }
 
 pub senders_of-senders-requires : goal.senders_of-senders-requires
 senders_of-senders-requires c = let counts = c.counts_in-counts in let used = counted_use c.args.words.now counts.result c.requires counts.ensures (not-false _ c.if-not-counts.false) in let w = c.args.words.now in let one = c.fill_words-first in let three = c.fill_words-third in let four = c.fill_words-fourth in let all_four = c.all_four in let (first, second, third, fourth) = four_true one.result c.fill_words-second.result three.result four.result (sym all_four.ensures ∙ c.if-not-all_four.false) in record { n_le_most_rows = used.few; inside = λ r below. inside_so w counts.result.rows used c.fill_words-second.new.list (c.fill_words-second.ensures.list_after second) (sym c.fill_words-second.ensures.value ∙ second) r }

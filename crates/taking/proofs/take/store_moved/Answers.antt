@@ -13,7 +13,7 @@ use Rattle.taking.specs.Taken.{rows_kept}
 use Rattle.taking.proofs.take.store_moved.Goals as goal
 
 pub store_counts-requires : goal.store_counts-requires
-store_counts-requires c = let full = c.requires.fact_3 in let heads = c.store_heads.ensures.state_unchanged in let tags = c.store_tags.ensures.state_unchanged in let accepted = c.store_accepted.ensures.words_len_unchanged in record { n_le_most_rows_1 = c.requires.fact_1; n_le_most_rows_2 = omega (arith, c.requires.fact_2); bytes_value_1 = full.bytes; bytes_value_2 = full.held; bytes_value_3 = full.since; bytes_value_4 = full.parent_since }
+store_counts-requires c = let full = c.requires.moved_full in let heads = c.store_heads.ensures.state_unchanged in let tags = c.store_tags.ensures.state_unchanged in let accepted = c.store_accepted.ensures.words_len_unchanged in record { rows_few = c.requires.rows_few; state_room = omega (arith, c.requires.state_room); bytes_full = full.bytes; held_full = full.held; since_full = full.since; parent_since_full = full.parent_since }
 
 pub returns : goal.returns
 unfolding rows_kept

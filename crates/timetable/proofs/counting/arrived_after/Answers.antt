@@ -1,0 +1,12 @@
+-- `counting::arrived_after` meets its contract: a packet arrives unless the class is 0.
+-- Assumes nothing.
+use native.Mathlib.Omega.{arith}
+use borrow.Author.Rules.{rules}
+use Rattle.timetable.proofs.Arrivals.{none_arrives, one_arrives}
+use Rattle.timetable.proofs.counting.arrived_after.Goals as goal
+
+pub returns-then-class-eq0 : goal.returns-then-class-eq0
+returns-then-class-eq0 c = (λ length. let none = none_arrives c.args.class length c.if-class-eq0.true in omega arith, omega arith)
+
+pub returns : goal.returns
+returns c = (λ length. let one = one_arrives c.args.class length c.if-class-eq0.false in omega arith, omega arith)

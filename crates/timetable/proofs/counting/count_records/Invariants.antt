@@ -1,0 +1,22 @@
+-- `counting::count_records` meets its contract. The loop's invariant: the records of the places passed are kept, as many packets as are
+-- counted arrived at them, and the other words are as they were.
+-- Assumes nothing.
+use Prim.Native.Nat.{ℕ, ◌≤◌, ◌-◌}
+use mathlib.Core.Path.{◌≡◌, refl}
+use mathlib.Core.List.{List}
+use native.Mathlib.Numerals.{add-one}
+use native.Mathlib.Omega.{arith}
+use lib.ListN.{length, get_or, length-set}
+use borrow.Author.Rules.{rules}
+use Rattle.input.specs.Lent.{events_of}
+use Rattle.pcap.specs.Printed.{record_of}
+use Rattle.timetable.proofs.Arrivals.{Below, kept_at, rest_at, one_more}
+use Rattle.timetable.proofs.counting.count_records.Given as goal
+
+abbrev pub invariant-loop-i : goal.invariant-loop-i
+invariant-loop-i l =
+    (l.i ≤ length l.classes) × (l.arrived ≤ l.i) × (length l.records ≡ length l.initial.records) × Below l.classes l.records l.i
+    × ((lengths : List ℕ) → l.arrived ≡ record_of (events_of l.classes lengths) l.i) × ((j : ℕ) → l.i ≤ j → get_or l.records j 0 ≡ get_or l.initial.records j 0)
+
+abbrev pub decreases-loop-i : goal.decreases-loop-i
+decreases-loop-i l = length l.classes - l.i
