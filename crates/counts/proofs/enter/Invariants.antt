@@ -2,15 +2,11 @@
 -- packets held before, and no count has grown by more than the number of rows passed.
 -- Assumes nothing.
 use Prim.Native.Nat.{ℕ, suc, ◌+◌, ◌-◌, ◌^◌, ◌≤◌, ◌<◌}
-use native.Mathlib.Omega.{arith}
-use borrow.Author.Rules.{rules}
 use lib.ListN.{get_or}
 use Rattle.input.specs.Limits.{most_rows}
-use Rattle.words.proofs.Entries.{entry_set}
-use Rattle.rules.proofs.OnPath.{Remains, remains_all, remains_less, remains_last}
+use Rattle.rules.proofs.OnPath.{Remains}
 use Rattle.counts.specs.Counts.{own, above, begun, path_tree}
-use Rattle.counts.proofs.Marks.{Marked, marked_none, marked_as, marked_more}
-use Rattle.counts.proofs.Steps.{entered}
+use Rattle.counts.proofs.Marks.{Marked}
 use Rattle.counts.proofs.enter.Given as goal
 
 abbrev pub invariant-loop-to_enter : goal.invariant-loop-to_enter

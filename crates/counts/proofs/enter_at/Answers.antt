@@ -1,7 +1,6 @@
 -- `counts::enter_at` meets its contract.
 -- Assumes nothing.
 use native.Mathlib.Numerals.{add-one}
-use borrow.Author.Rules.{rules}
 use Rattle.counts.proofs.enter_at.Goals as goal
 
 pub returns : goal.returns

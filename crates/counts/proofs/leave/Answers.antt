@@ -1,14 +1,13 @@
 -- `counts::leave` meets its contract. The loop's invariant: what remains of the path's changes is the whole of them, and no count has
 -- grown by more than a length for each row passed.
 -- Assumes nothing.
-use Prim.Native.Nat.{ℕ, pred, ◌+◌, ◌-◌, ◌*◌, ◌^◌, ◌≤◌, ◌<◌}
+use Prim.Native.Nat.{ℕ, ◌+◌, ◌-◌, ◌*◌, ◌^◌, ◌≤◌, ◌<◌}
 use native.Mathlib.Omega.{arith}
 use borrow.Author.Rules.{rules}
 use lib.ListN.{get_or}
-use Rattle.input.specs.Limits.{most_rows}
 use Rattle.words.proofs.Entries.{entry_set}
-use Rattle.rules.proofs.OnPath.{Remains, remains_all, remains_less, remains_last}
-use Rattle.counts.specs.Counts.{most_finished, path_tree}
+use Rattle.rules.proofs.OnPath.{remains_all, remains_less, remains_last}
+use Rattle.counts.specs.Counts.{most_finished}
 use Rattle.counts.proofs.Steps.{left}
 use Rattle.counts.proofs.leave.Goals as goal
 

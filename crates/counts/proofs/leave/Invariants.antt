@@ -2,14 +2,10 @@
 -- grown by more than a length for each row passed.
 -- Assumes nothing.
 use Prim.Native.Nat.{ℕ, pred, ◌+◌, ◌-◌, ◌*◌, ◌^◌, ◌≤◌, ◌<◌}
-use native.Mathlib.Omega.{arith}
-use borrow.Author.Rules.{rules}
 use lib.ListN.{get_or}
 use Rattle.input.specs.Limits.{most_rows}
-use Rattle.words.proofs.Entries.{entry_set}
-use Rattle.rules.proofs.OnPath.{Remains, remains_all, remains_less, remains_last}
+use Rattle.rules.proofs.OnPath.{Remains}
 use Rattle.counts.specs.Counts.{most_finished, path_tree}
-use Rattle.counts.proofs.Steps.{left}
 use Rattle.counts.proofs.leave.Given as goal
 
 abbrev pub invariant-loop-to_leave : goal.invariant-loop-to_leave

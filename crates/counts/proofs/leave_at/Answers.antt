@@ -4,7 +4,6 @@ use Prim.Native.Nat.{pred}
 use mathlib.Core.Path.{◌≡◌, refl, sym}
 use native.Mathlib.Numerals.{sub-one}
 use native.Mathlib.Omega.{arith}
-use borrow.Author.Rules.{rules}
 use lib.ListN.{get_or}
 use lib.Seq.{set-get_or}
 use Rattle.counts.proofs.leave_at.Goals as goal

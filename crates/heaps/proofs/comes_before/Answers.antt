@@ -2,7 +2,6 @@
 -- Assumes nothing.
 use borrow.Author.Tests.{eq-eqb, ne_eqb}
 use Rattle.heaps.specs.Order.{before}
-use borrow.Author.Rules.{rules}
 use Rattle.heaps.proofs.comes_before.Goals as goal
 
 pub returns-then-own-its : goal.returns-then-own-its

@@ -1,13 +1,10 @@
 -- `heaps::hang` meets its contract: what remains to be melded is all that was to be melded at first.
 -- Assumes nothing.
 use Prim.Native.Nat.{◌<◌}
-use mathlib.Core.Path.{◌≡◌, sym, ◌∙◌}
+use mathlib.Core.Path.{◌≡◌}
 use Rattle.heaps.specs.Sizes.{most_members}
 use Rattle.heaps.specs.Order.{before}
 use Rattle.heaps.specs.Links.{links, hung}
-use Rattle.heaps.proofs.Turns.{hung_done, hung_stops, hung_goes}
-use native.Mathlib.Omega.{arith}
-use borrow.Author.Rules.{rules}
 use Rattle.heaps.proofs.hang.Given as goal
 
 abbrev pub invariant-loop-more : goal.invariant-loop-more

@@ -2,7 +2,6 @@
 -- Assumes nothing.
 use Rattle.heaps.specs.Links.{lesser, other}
 use mathlib.Core.Path.{sym, ◌∙◌}
-use borrow.Author.Rules.{rules}
 use Rattle.heaps.proofs.in_order.Goals as goal
 
 pub returns-then-comes_before : goal.returns-then-comes_before

@@ -2,7 +2,6 @@
 -- Assumes nothing.
 use Rattle.heaps.specs.Links.{bare}
 use Rattle.heaps.specs.Heaps.{joined}
-use borrow.Author.Rules.{rules}
 use Rattle.heaps.proofs.insert.Goals as goal
 
 pub returns : goal.returns

@@ -2,7 +2,6 @@
 -- Assumes nothing.
 use borrow.Author.Tests.{eq-eqb, ne_eqb}
 use Rattle.heaps.specs.Links.{root_of, melded}
-use borrow.Author.Rules.{rules}
 use Rattle.heaps.proofs.meld.Goals as goal
 
 pub returns-then-b-eq0 : goal.returns-then-b-eq0

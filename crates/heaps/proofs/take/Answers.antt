@@ -3,7 +3,6 @@
 use mathlib.Core.Path.{refl, sym}
 use borrow.Author.Tests.{eq-eqb, ne_eqb}
 use Rattle.heaps.specs.Heaps.{parted}
-use borrow.Author.Rules.{rules}
 use Rattle.heaps.proofs.take.Goals as goal
 
 pub returns-then-k-eq0 : goal.returns-then-k-eq0

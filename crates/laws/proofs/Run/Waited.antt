@@ -1,11 +1,10 @@
 -- In every run no two children of a row have the same head, and every choice is clear: a head is a packet of its row's own part of the tree.
 -- Assumes nothing.
-use Prim.Native.Nat.{ℕ, zero, suc, pred, ◌<◌}
+use Prim.Native.Nat.{ℕ, zero, suc, ◌<◌}
 use mathlib.Core.Path.{◌≡◌, refl, sym, ◌∙◌, subst}
-use mathlib.Core.Logic.{◌≢◌, ◌⊎◌, inl, inr, ⊎_elim}
+use mathlib.Core.Logic.{◌≢◌}
 use mathlib.Core.Bool.{Bool, true, false, cond}
 use mathlib.Core.List.{List, [], ◌∷◌, tail}
-use native.Mathlib.Decide.{ℕ_discrete}
 use native.Mathlib.Omega.{arith}
 use Rattle.input.specs.declared.Event.{Event}
 use Rattle.input.specs.declared.Event.TheVariants.{Arrival, Finish}
@@ -13,7 +12,6 @@ use Rattle.input.specs.Classes.{Tree, parent, depth, row_of}
 use Rattle.input.specs.Events.{Events, class_word, length_word, event}
 use Rattle.rules.specs.Box.{Packet, Rows, Box, head, head_class, has_head, queue_of, line_class, left}
 use Rattle.rules.specs.Steps.{new_head, chooses, up, arrives, leaves, renews, goes_on, arrival, departure, step, after}
-use Rattle.rules.specs.Promise.{within}
 use Rattle.rules.specs.declared.Why.{Why}
 use Rattle.rules.specs.declared.Why.TheVariants.{Finished, Arrived}
 use Rattle.laws.specs.Sound.{Sound, Kid, Inner, Sender, ArrivalFits}
@@ -22,10 +20,10 @@ use Rattle.laws.specs.Kept.{HeadOf, Kept}
 use Rattle.laws.specs.Named.{PacketOf, Named, class_for}
 use Rattle.laws.specs.Choices.{Choice, choices, why_of, front, choices_of, Made, Apart, Clear}
 use Rattle.laws.specs.History.{Accepted}
-use Rattle.laws.proofs.Tree.Paths.{kid_apart, parent_is_inner, self_within, parent_within, one_child}
+use Rattle.laws.proofs.Tree.Paths.{parent_is_inner}
 use Rattle.laws.proofs.Tree.Depths.{kid_deeper, lower_kid}
-use Rattle.laws.proofs.Path.Choosing.{Nobody, Somebody, new_head_full, new_head_elsewhere, new_head_here, chooses_full, chooses_elsewhere, chooses_what}
-use Rattle.laws.proofs.Path.DeparturePath.{leaves_full, leaves_head, renews_full}
+use Rattle.laws.proofs.Path.Choosing.{new_head_full, chooses_full}
+use Rattle.laws.proofs.Path.DeparturePath.{leaves_full, renews_full}
 use Rattle.laws.proofs.Path.Looking.{clear}
 use Rattle.laws.proofs.Path.Naming.{named_apart, new_head_named, chooses_named, leaves_named, own_packet}
 use Rattle.laws.proofs.Event.Turns.{class_at, Arrives, fewer, turn}

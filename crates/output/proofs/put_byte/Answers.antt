@@ -1,7 +1,6 @@
 -- `output::put_byte` meets its contract: a byte that finds room is set, and one that finds none is left out.
 -- Assumes nothing.
 use native.Mathlib.Omega.{arith}
-use borrow.Author.Rules.{rules}
 use Rattle.output.proofs.Pages.{byte_put, byte_left}
 use Rattle.output.proofs.put_byte.Goals as goal
 

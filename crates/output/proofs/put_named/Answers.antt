@@ -1,6 +1,5 @@
 -- `output::put_named` meets its contract: one after the other.
 -- Assumes nothing.
-use borrow.Author.Rules.{rules}
 use Rattle.output.proofs.Pages.{then}
 use Rattle.output.proofs.put_named.Goals as goal
 

@@ -5,7 +5,6 @@ use lib.IntN.{nat_abs}
 use mir.Syntax.{w64}
 use mir.Val.{to_z, of_z}
 use mir.ValLaws.{to_z-of_z}
-use borrow.Author.Rules.{rules}
 use Rattle.output.proofs.Pages.{then}
 use Rattle.output.proofs.Numbers.{below_zero, not_below_zero}
 use Rattle.output.proofs.put_signed.Goals as goal

@@ -1,11 +1,10 @@
 -- `output::put_text` meets its contract. The loop's invariant: what remains of the text, put on the page as it is, is all of it put on the page
 -- as it was.
 -- Assumes nothing.
-use Prim.Native.Nat.{◌≤◌, ◌-◌}
 use mathlib.Core.List.{[]}
 use mathlib.Core.Path.{◌≡◌, ◌∙◌}
 use native.Mathlib.Omega.{arith}
-use lib.ListN.{length, drop, drop_of_length-le}
+use lib.ListN.{drop, drop_of_length-le}
 use borrow.Author.Rules.{rules}
 use Rattle.output.specs.Pages.{page_of, with_text}
 use Rattle.output.proofs.Pages.{text_turn}

@@ -1,12 +1,11 @@
 -- `queues::clear` meets its contract. The loop's invariant: as many words as were passed are 0, over what was lent.
 -- Assumes nothing.
-use Prim.Native.Nat.{◌≤◌, ◌-◌}
 use mathlib.Core.Path.{◌≡◌, refl}
 use mathlib.Core.List.{[], ◌∷◌}
 use native.Mathlib.Numerals.{add-one}
 use native.Mathlib.Omega.{arith}
 use borrow.Author.Rules.{rules}
-use lib.ListN.{length, replicate, length-replicate, length-set}
+use lib.ListN.{replicate, length-replicate, length-set}
 use Rattle.rules.specs.Outcome.{over}
 use Rattle.rules.proofs.Over.{over_more}
 use Rattle.queues.proofs.Words.{replicate_more}

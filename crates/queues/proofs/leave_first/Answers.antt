@@ -1,6 +1,5 @@
 -- `queues::leave_first` meets its contract: a queue whose first packet has no next is empty then.
 -- Assumes nothing.
-use borrow.Author.Rules.{rules}
 use mathlib.Core.Path.{sym, refl}
 use Rattle.queues.proofs.Words.{shortened_none, shortened_some}
 use Rattle.queues.proofs.leave_first.Goals as goal

@@ -1,6 +1,5 @@
 -- `queues::send` meets its contract: a word is written where the line is idle and there is a head, else none.
 -- Assumes nothing.
-use borrow.Author.Rules.{rules}
 use mathlib.Core.Path.{refl}
 use native.Mathlib.Omega.{arith}
 use Rattle.queues.proofs.Words.{sent_none, sent_busy, sent_one}

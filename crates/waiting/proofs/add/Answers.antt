@@ -1,7 +1,6 @@
 -- `waiting::add` meets its contract.
 -- Assumes nothing.
 use borrow.Author.Tests.{le-leb, lt-leb}
-use borrow.Author.Rules.{rules}
 use Rattle.waiting.specs.Waiting.{added}
 use Rattle.waiting.proofs.add.Goals as goal
 

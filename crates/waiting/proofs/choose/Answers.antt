@@ -1,6 +1,5 @@
 -- `waiting::choose` meets its contract.
 -- Assumes nothing.
-use borrow.Author.Rules.{rules}
 use Rattle.waiting.specs.Waiting.{child_of, rest_of}
 use Rattle.waiting.proofs.Turns.{ready_at}
 use Rattle.waiting.proofs.choose.Goals as goal

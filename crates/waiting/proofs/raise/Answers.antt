@@ -1,7 +1,6 @@
 -- `waiting::raise` meets its contract.
 -- Assumes nothing.
 use borrow.Author.Tests.{eq-eqb, ne_eqb}
-use borrow.Author.Rules.{rules}
 use Rattle.waiting.specs.Waiting.{time_of}
 use Rattle.waiting.proofs.raise.Goals as goal
 

@@ -1,11 +1,7 @@
 -- `waiting::ripen` meets its contract: what remains to be done comes to the whole.
 -- Assumes nothing.
-use mathlib.Core.Path.{◌≡◌, refl, sym, ◌∙◌}
+use mathlib.Core.Path.{refl, sym, ◌∙◌}
 use native.Mathlib.Omega.{arith}
-use borrow.Author.Rules.{rules}
-use Rattle.input.specs.Limits.{most_rows}
-use Rattle.heaps.specs.Heaps.{forest}
-use Rattle.waiting.specs.Waiting.{ripened}
 use Rattle.waiting.proofs.Turns.{ripened_more, ripened_done, ripened_none}
 use Rattle.waiting.proofs.ripen.Goals as goal
 

@@ -1,6 +1,5 @@
 -- `waiting::ripen_one` meets its contract: what it takes from one heap it puts into the other.
 -- Assumes nothing.
-use borrow.Author.Rules.{rules}
 use Rattle.waiting.specs.Waiting.{ripens}
 use Rattle.waiting.proofs.ripen_one.Goals as goal
 

@@ -1,7 +1,6 @@
 -- `waiting::started` meets its contract.
 -- Assumes nothing.
 use borrow.Author.Tests.{eq-eqb, ne_eqb}
-use borrow.Author.Rules.{rules}
 use Rattle.waiting.specs.Waiting.{started}
 use Rattle.waiting.proofs.started.Goals as goal
 

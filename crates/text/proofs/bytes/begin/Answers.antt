@@ -1,6 +1,5 @@
 -- `text::begin` meets its contract, by that of `empty`.
 -- Assumes nothing.
-use borrow.Author.Rules.{rules}
 use Rattle.text.proofs.bytes.begin.Goals as goal
 
 pub returns : goal.returns

@@ -1,6 +1,5 @@
 -- `ended` meets its contract, by those of the functions that it calls.
 -- Assumes nothing.
-use borrow.Author.Rules.{rules}
 use Rattle.text.specs.Reading.{ended}
 use Rattle.text.proofs.bytes.ended.Goals as goal
 

@@ -1,12 +1,8 @@
 -- `number` meets its contract: the bytes still to come make of the field so far what all bytes make of the empty one.
 -- Assumes nothing.
-use Prim.Native.Nat.{◌≤◌, ◌<◌, ◌-◌}
-use mathlib.Core.Path.{◌≡◌, refl}
-use native.Mathlib.Numerals.{add-one}
-use native.Mathlib.Omega.{arith}
+use Prim.Native.Nat.{◌≤◌, ◌-◌}
+use mathlib.Core.Path.{◌≡◌}
 use lib.ListN.{length, drop}
-use lib.Seq.{drop-cons, drop-length}
-use borrow.Author.Rules.{rules}
 use Rattle.text.specs.Reading.{with_bytes, field_of}
 use Rattle.text.proofs.digits.number.Given as goal
 

@@ -1,6 +1,5 @@
 -- `with_digit` meets its contract, arm by arm.
 -- Assumes nothing.
-use borrow.Author.Rules.{rules}
 use Rattle.text.specs.Reading.{with_digit}
 use Rattle.text.proofs.digits.with_digit.Goals as goal
 

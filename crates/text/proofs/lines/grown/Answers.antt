@@ -1,6 +1,5 @@
 -- `grown` meets its contract, by those of the functions that it calls.
 -- Assumes nothing.
-use borrow.Author.Rules.{rules}
 use Rattle.text.specs.Reading.{grown}
 use Rattle.text.proofs.lines.grown.Goals as goal
 

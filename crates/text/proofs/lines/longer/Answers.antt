@@ -1,7 +1,6 @@
 -- `longer` meets its contract, by its test.
 -- Assumes nothing.
 use borrow.Author.Tests.{eq-eqb, ne_eqb}
-use borrow.Author.Rules.{rules}
 use Rattle.text.specs.Reading.{longer}
 use Rattle.text.proofs.lines.longer.Goals as goal
 

@@ -1,6 +1,5 @@
 -- `from_second` meets its contract, arm by arm.
 -- Assumes nothing.
-use borrow.Author.Rules.{rules}
 use Rattle.text.specs.Reading.{from_second, number_in}
 use Rattle.text.proofs.shown.from_second.Goals as goal
 

@@ -1,7 +1,6 @@
 -- `numbers` meets its contract, arm by arm.
 -- Assumes nothing.
 use mathlib.Core.Path.{sym, ap, ◌∙◌}
-use borrow.Author.Rules.{rules}
 use Rattle.text.specs.declared.Field.{Field}
 use Rattle.text.specs.Reading.{numbers, number_in, from_second}
 use Rattle.text.proofs.shown.numbers.Goals as goal
