@@ -4,7 +4,7 @@ use Prim.Native.Nat.{ℕ, ◌≤◌, ◌<◌}
 use mathlib.Core.Path.{◌≡◌, refl}
 use mathlib.Core.Bool.{false}
 use native.Mathlib.Omega.{arith}
-use lib.ListN.{length, get_or, length-replicate}
+use lib.ListN.{get_or, length-replicate}
 use Rattle.input.specs.Limits.{most_rows}
 use Rattle.input.specs.Classes.{Table, Tree, tree_of, sends}
 use Rattle.input.specs.Refusals.{rows_refused, table_refused}

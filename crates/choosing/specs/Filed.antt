@@ -1,5 +1,5 @@
 -- How the children that wait are filed for each way to find the one that is taken, and what a choice leaves.
-use Rattle.std.specs.Prelude.{ℕ, ◌<◌, ◌≡◌}
+use Rattle.std.specs.Prelude.{ℕ, ◌≡◌}
 use Rattle.input.specs.Classes.{Tree}
 use Rattle.rules.specs.declared.Why.{Why}
 use Rattle.rules.specs.Box.{Rows, head}

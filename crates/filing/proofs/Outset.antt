@@ -1,12 +1,10 @@
 -- Before the first event nobody waits, and nothing is in a heap.
 -- Assumes nothing.
 use Prim.Native.Nat.{ℕ}
-use mathlib.Core.Path.{◌≡◌, refl}
-use mathlib.Core.List.{List}
-use lib.ListN.{get_or, replicate}
-use Rattle.input.specs.Limits.{most_rows}
-use Rattle.input.specs.Classes.{Tree, zeros}
-use Rattle.rules.specs.Box.{Rows, head, fresh}
+use mathlib.Core.Path.{refl}
+use lib.ListN.{replicate}
+use Rattle.input.specs.Classes.{Tree}
+use Rattle.rules.specs.Box.{fresh}
 use Rattle.laws.proofs.Event.Outset.{zeros_at}
 use Rattle.laws.proofs.Tree.Trees.{zeros_full}
 use Rattle.heaps.specs.Sizes.{most_heaps, most_members}

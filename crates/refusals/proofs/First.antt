@@ -4,17 +4,16 @@ use Prim.Native.Nat.{ℕ, zero, suc, ◌+◌, ◌≤◌, ◌<◌}
 use mathlib.Core.Path.{◌≡◌, refl, sym, ◌∙◌, ap, ap₂}
 use mathlib.Core.Bool.{Bool, true, false, cond}
 use mathlib.Core.Logic.{◌≢◌}
-use mathlib.Core.List.{List, [], ◌∷◌, ◌++◌}
+use mathlib.Core.List.{[], ◌∷◌}
 use native.Mathlib.Decide.{ℕ_discrete}
 use native.Mathlib.Omega.{arith}
-use lib.Dec.{ltb, eqb}
+use lib.Dec.{ltb}
 use lib.ListN.{length, take, get_or, length-take}
 use borrow.Author.Tests.{lt-ltb, eqb-false}
 use Rattle.input.specs.declared.Refusal.{Refusal}
-use Rattle.input.specs.Limits.{whole}
 use Rattle.input.specs.Classes.{Table, parent_of, earlier, tree_of, parent, share, child}
 use Rattle.input.specs.Classes as classes
-use Rattle.input.specs.Refusals.{given, or_else, first, first_below, rows_refused, row_refused, class_refused, shares_refused, table_refused}
+use Rattle.input.specs.Refusals.{or_else, first, first_below, row_refused, class_refused, shares_refused, table_refused}
 use Rattle.laws.proofs.Tree.Trees.{first_none, below_none, given_none, place_most, tree_rows, parent_at}
 use Rattle.laws.proofs.Tree.Paths.{child_kid}
 use Rattle.tables.specs.Sized.{Sized}

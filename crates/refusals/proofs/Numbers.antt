@@ -1,21 +1,19 @@
 -- The numbers that a table is judged by are those of its refusals, one by one.
 -- Assumes nothing.
 use Prim.Native.Nat.{ℕ, zero, suc, ◌≤◌, ◌<◌}
-use mathlib.Core.Path.{◌≡◌, refl, ◌∙◌, sym, ap}
+use mathlib.Core.Path.{◌≡◌, refl, ◌∙◌}
 use mathlib.Core.Bool.{Bool, true, false, cond}
 use native.Mathlib.Decide.{ℕ_discrete}
 use native.Mathlib.Omega.{arith}
-use lib.Dec.{ltb, eqb}
+use lib.Dec.{ltb}
 use lib.ListN.{length, get_or, set, length-set}
 use lib.Seq.{get_or-set_same, get_or-set_other}
 use borrow.Author.Tests.{eq-eqb}
-use Rattle.input.specs.declared.Refusal.{Refusal}
 use Rattle.input.specs.Limits.{most_rows, whole}
 use Rattle.input.specs.Classes.{Table, Tree, tree_of}
 use Rattle.input.specs.Refusals.{given, nothing, rows_refused, row_refused}
 use Rattle.laws.proofs.Tree.Trees.{zeros_full}
 use Rattle.tables.specs.Answers.{below}
-use Rattle.refusals.specs.declared.Judged.{Judged}
 use Rattle.refusals.specs.All.{children_share, sum_number, sum_refused, sum_refusal, row_by_row, judged}
 
 below_full : (at : ℕ → ℕ) (n : ℕ) → length (below at n) ≡ most_rows

@@ -1,6 +1,5 @@
 -- `checks::check_arrival` meets its contract: the row that is found is the row of the class.
 -- Assumes nothing.
-use borrow.Author.Rules.{rules}
 use Rattle.checks.proofs.Meeting.{class_found}
 use Rattle.checks.proofs.check_arrival.Goals as goal
 

@@ -2,7 +2,6 @@
 -- Assumes nothing.
 use mathlib.Core.Path.{sym, ◌∙◌, ap₂}
 use native.Mathlib.Omega.{arith}
-use borrow.Author.Rules.{rules}
 use Rattle.input.specs.Refusals.{or_else, first, room_refused}
 use Rattle.tables.proofs.Firsts.{given_last}
 use Rattle.checks.specs.Counted.{lengths_refused}

@@ -1,6 +1,5 @@
 -- `checks::check_event` meets its contract, by the kind of event.
 -- Assumes nothing.
-use borrow.Author.Rules.{rules}
 use Rattle.checks.proofs.check_event.Goals as goal
 
 pub returns-in-Arrival : goal.returns-in-Arrival

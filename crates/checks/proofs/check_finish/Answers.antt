@@ -2,7 +2,6 @@
 -- Assumes nothing.
 use mathlib.Core.Path.{refl, sym, ◌∙◌, ap₂}
 use native.Mathlib.Omega.{arith}
-use borrow.Author.Rules.{rules}
 use Rattle.input.specs.EventRows.{row_for}
 use Rattle.input.specs.Refusals.{or_else, first, meeting_refused}
 use Rattle.tables.proofs.Firsts.{given_last}

@@ -1,7 +1,6 @@
 -- `checks::check_lengths` meets its contract: 1, 2, 3 in this order, by how many words there are.
 -- Assumes nothing.
 use mathlib.Core.Path.{refl}
-use borrow.Author.Rules.{rules}
 use Rattle.checks.proofs.check_lengths.Goals as goal
 
 pub returns : goal.returns

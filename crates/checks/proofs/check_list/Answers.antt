@@ -1,19 +1,17 @@
 -- `checks::check_list` meets its contract: no event passed is refused, and the rows and the counts are those of the events passed.
 -- Assumes nothing.
-use Prim.Native.Nat.{◌-◌, ◌≤◌}
 use mathlib.Core.Path.{◌≡◌, refl, sym, ◌∙◌, subst}
 use native.Mathlib.Numerals.{add-one}
 use native.Mathlib.Omega.{arith}
 use lib.Dec.{leb}
 use lib.ListN.{length}
-use borrow.Author.Rules.{rules}
 use Rattle.input.specs.declared.Event.{Event}
 use Rattle.input.specs.Classes.{Tree}
 use Rattle.input.specs.Events.{Events, length_word, event}
 use Rattle.input.specs.EventRows.{no_rows}
 use Rattle.input.specs.Lent.{events_of}
 use Rattle.checks.specs.Counted.{Known, Meets}
-use Rattle.checks.proofs.Meeting.{counted_plain, Passed, passed_none, passed_stop, passed_more}
+use Rattle.checks.proofs.Meeting.{counted_plain, passed_none, passed_stop, passed_more}
 use Rattle.checks.proofs.check_list.Goals as goal
 
 pub loop-i-init : goal.loop-i-init

@@ -1,6 +1,5 @@
 -- `checks::check_packet` meets its contract: the row is that of the class.
 -- Assumes nothing.
-use native.Mathlib.Omega.{arith}
 use borrow.Author.Rules.{rules}
 use Rattle.checks.proofs.Meeting.{met_unknown, met_known}
 use Rattle.checks.proofs.check_packet.Goals as goal

@@ -1,6 +1,5 @@
 -- `checks::events_refused` meets its contract: each answer by the tests on its way.
 -- Assumes nothing.
-use borrow.Author.Rules.{rules}
 use Rattle.input.specs.Refusals.{events_refused, given, nothing}
 use Rattle.tables.proofs.Tests.{tests}
 use Rattle.checks.proofs.events_refused.Goals as goal

@@ -1,6 +1,5 @@
 -- `checks::packet_refused` meets its contract: each answer by the tests on its way.
 -- Assumes nothing.
-use borrow.Author.Rules.{rules}
 use Rattle.input.specs.Refusals.{first, or_else, given, nothing, packet_refused}
 use Rattle.tables.proofs.Tests.{tests}
 use Rattle.checks.proofs.packet_refused.Goals as goal

@@ -1,6 +1,5 @@
 -- `checks::room_refused` meets its contract: each answer by the tests on its way.
 -- Assumes nothing.
-use borrow.Author.Rules.{rules}
 use Rattle.input.specs.Refusals.{given, nothing, room_refused}
 use Rattle.tables.proofs.Tests.{tests}
 use Rattle.checks.proofs.room_refused.Goals as goal

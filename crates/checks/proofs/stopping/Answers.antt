@@ -1,7 +1,6 @@
 -- `checks::stopping` meets its contract: no table is read, and no event has a row.
 -- Assumes nothing.
 use mathlib.Core.Path.{ap}
-use borrow.Author.Rules.{rules}
 use Rattle.input.specs.EventRows.{no_rows}
 use Rattle.tables.specs.declared.Reading.{Reading}
 use Rattle.checks.specs.declared.Checked.{Checked}

@@ -3,7 +3,6 @@
 use Prim.Native.Nat.{ℕ, ◌+◌, ◌<◌, ◌^◌}
 use mathlib.Core.List.{List}
 use native.Mathlib.Omega.{arith}
-use borrow.Author.Rules.{rules}
 use Rattle.input.specs.Limits.{most_rows}
 use Rattle.input.specs.Classes.{Tree}
 use Rattle.input.specs.Lent.{tree_with}

@@ -1,6 +1,5 @@
 -- `choosing::file` meets its contract, by the way: a list of all children stays as it is, and a row joins its parent's heaps.
 -- Assumes nothing.
-use borrow.Author.Rules.{rules}
 use Rattle.choosing.specs.Filed.{Filed}
 use Rattle.choosing.proofs.file.Goals as goal
 

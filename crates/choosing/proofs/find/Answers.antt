@@ -1,7 +1,6 @@
 -- `choosing::find` meets its contract, by the way: a look through all children, or their two heaps, tells the child that the rules pick.
 -- Assumes nothing.
 use mathlib.Core.Path.{◌∙◌}
-use borrow.Author.Rules.{rules}
 use Rattle.rules.specs.declared.Why.TheVariants.{Arrived}
 use Rattle.filing.proofs.Choosing.{chosen, chosen_time, chosen_child}
 use Rattle.choosing.specs.Filed.{Filed}

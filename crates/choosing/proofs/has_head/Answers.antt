@@ -1,7 +1,6 @@
 -- `choosing::has_head` meets its contract: a head is there where its number is not 0.
 -- Assumes nothing.
 use mathlib.Core.Path.{refl}
-use borrow.Author.Rules.{rules}
 use Rattle.rules.specs.Box.{has_head}
 use Rattle.choosing.proofs.has_head.Goals as goal
 

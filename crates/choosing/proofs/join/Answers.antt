@@ -3,7 +3,6 @@
 use Prim.Native.Nat.{ℕ}
 use mathlib.Core.Path.{sym, ◌∙◌}
 use mathlib.Core.List.{List}
-use borrow.Author.Rules.{rules}
 use Rattle.rules.specs.Box.{Rows}
 use Rattle.laws.proofs.Level.Heads.{has_true, has_false}
 use Rattle.filing.proofs.Heading.{one_aside, none_aside}

@@ -1,6 +1,5 @@
 -- `choosing::new_head` meets its contract: one more charge is within the tags' leeway, and the stores are those of the definition.
 -- Assumes nothing.
-use borrow.Author.Rules.{rules}
 use Rattle.rules.specs.Steps.{new_head, charged, with_head}
 use Rattle.choosing.proofs.Ticks.{charged_fits}
 use Rattle.looking.proofs.Parts.{next_start_part}

@@ -1,7 +1,6 @@
 -- `choosing::next_start` meets its contract: the two reasons for choosing are the two clauses of the definition.
 -- Assumes nothing.
 use native.Mathlib.Omega.{arith}
-use borrow.Author.Rules.{rules}
 use Rattle.rules.specs.Steps.{next_start}
 use Rattle.choosing.proofs.next_start.Goals as goal
 

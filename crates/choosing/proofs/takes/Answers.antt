@@ -3,7 +3,6 @@
 -- Assumes nothing.
 use native.Mathlib.Omega.{arith}
 use borrow.Author.Tests.{eq-eqb, ne_eqb}
-use borrow.Author.Rules.{rules}
 use Rattle.rules.specs.Steps.{takes, with_virtual, with_head}
 use Rattle.choosing.specs.Sizes.{most_charge}
 use Rattle.choosing.proofs.Ticks.{passed_leeway}

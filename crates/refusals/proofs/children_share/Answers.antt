@@ -1,11 +1,9 @@
 -- `children_share` meets its contract: the sum so far is that of the rows passed, and has room for as many shares as there can be rows.
 -- Assumes nothing.
-use Prim.Native.Nat.{◌+◌, ◌*◌, ◌-◌, ◌≤◌}
+use Prim.Native.Nat.{◌+◌}
 use mathlib.Core.Path.{◌≡◌, refl, ap₂}
 use native.Mathlib.Numerals.{add-one}
 use native.Mathlib.Omega.{arith}
-use borrow.Author.Rules.{rules}
-use Rattle.input.specs.Classes.{Tree}
 use Rattle.refusals.specs.All.{children_share}
 use Rattle.refusals.proofs.children_share.Goals as goal
 

@@ -1,8 +1,6 @@
 -- `judge` meets its contract: 1 is looked for first, and without it the slices are of one length.
 -- Assumes nothing.
 use mathlib.Core.Path.{refl}
-use native.Mathlib.Omega.{arith}
-use borrow.Author.Rules.{rules}
 use Rattle.input.specs.Classes.{Table}
 use Rattle.input.specs.Lent.{table_of}
 use Rattle.tables.specs.Sized.{Sized}

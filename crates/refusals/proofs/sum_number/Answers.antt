@@ -1,7 +1,6 @@
 -- `sum_number` meets its contract, by its test.
 -- Assumes nothing.
 use mathlib.Core.Path.{refl}
-use borrow.Author.Rules.{rules}
 use borrow.Author.Tests.{lt-ltb, le-ltb}
 use Rattle.refusals.specs.All.{sum_number}
 use Rattle.refusals.proofs.sum_number.Goals as goal

@@ -1,13 +1,11 @@
 -- `sums_refused` meets its contract: the rows passed have their entries.
 -- Assumes nothing.
-use Prim.Native.Nat.{◌-◌, ◌≤◌}
 use mathlib.Core.Path.{◌≡◌, refl, ◌∙◌, ap}
 use native.Mathlib.Numerals.{add-one}
 use native.Mathlib.Omega.{arith}
-use borrow.Author.Rules.{rules}
-use Rattle.input.specs.Classes.{Tree, zeros}
+use Rattle.input.specs.Classes.{zeros}
 use Rattle.tables.specs.Answers.{below}
-use Rattle.refusals.specs.All.{sum_number, sum_refused}
+use Rattle.refusals.specs.All.{sum_refused}
 use Rattle.refusals.proofs.sums_refused.Goals as goal
 
 pub loop-p-init : goal.loop-p-init

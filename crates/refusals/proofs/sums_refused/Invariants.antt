@@ -1,13 +1,10 @@
 -- `sums_refused` meets its contract: the rows passed have their entries.
 -- Assumes nothing.
 use Prim.Native.Nat.{◌-◌, ◌≤◌}
-use mathlib.Core.Path.{◌≡◌, refl, ◌∙◌, ap}
-use native.Mathlib.Numerals.{add-one}
-use native.Mathlib.Omega.{arith}
-use borrow.Author.Rules.{rules}
-use Rattle.input.specs.Classes.{Tree, zeros}
+use mathlib.Core.Path.{◌≡◌}
+use Rattle.input.specs.Classes.{Tree}
 use Rattle.tables.specs.Answers.{below}
-use Rattle.refusals.specs.All.{sum_number, sum_refused}
+use Rattle.refusals.specs.All.{sum_refused}
 use Rattle.refusals.proofs.sums_refused.Given as goal
 
 abbrev pub invariant-loop-p : goal.invariant-loop-p

@@ -3,7 +3,6 @@
 use Prim.Native.Nat.{◌*◌, ◌^◌, ◌≤◌, ◌<◌}
 use native.Mathlib.Nat.{mul-le-mul}
 use native.Mathlib.Omega.{arith}
-use borrow.Author.Rules.{rules}
 use Rattle.input.specs.Limits.{whole}
 use Rattle.counts.specs.Counts.{most_finished}
 use Rattle.report.proofs.Signed.{difference_fits, read_difference, written_difference}

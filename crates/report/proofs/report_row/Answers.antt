@@ -1,6 +1,5 @@
 -- `report::report_row` meets its contract: the five words are the row's.
 -- Assumes nothing.
-use borrow.Author.Rules.{rules}
 use Rattle.report.proofs.report_row.Goals as goal
 
 pub returns : goal.returns

@@ -1,20 +1,15 @@
 -- `report::write_lags` meets its contract. The loop's invariant: the lags of the rows passed are written over what was lent.
 -- Assumes nothing.
-use Prim.Native.Nat.{◌≤◌, ◌-◌}
 use mathlib.Core.Path.{◌≡◌, refl}
 use mathlib.Core.List.{[], ◌∷◌}
 use native.Mathlib.Numerals.{add-one}
 use native.Mathlib.Omega.{arith}
 use borrow.Author.Rules.{rules}
-use lib.ListN.{length, length-set}
+use lib.ListN.{length-set}
 use mir.Syntax.{w64}
 use mir.ValLaws.{to_z-of_z}
-use Rattle.input.specs.Classes.{Tree}
-use Rattle.rules.specs.Box.{Box}
 use Rattle.rules.specs.Outcome.{lag, lags_of, over}
 use Rattle.rules.proofs.Results.{lags_length}
-use Rattle.counts.specs.Counts.{Counts}
-use Rattle.report.specs.Lags.{Shares}
 use Rattle.rules.proofs.Over.{over_more}
 use Rattle.report.proofs.write_lags.Goals as goal
 

@@ -1,16 +1,12 @@
 -- `report::write_report` meets its contract. The loop's invariant: the report of the rows passed is written over what was lent.
 -- Assumes nothing.
-use Prim.Native.Nat.{◌≤◌, ◌-◌, ◌*◌}
+use Prim.Native.Nat.{◌*◌}
 use mathlib.Core.Path.{◌≡◌, ◌∙◌, refl}
 use native.Mathlib.Numerals.{add-one}
 use native.Mathlib.Omega.{arith}
 use borrow.Author.Rules.{rules}
-use lib.ListN.{length}
-use Rattle.input.specs.Classes.{Tree}
-use Rattle.rules.specs.Box.{Box}
 use Rattle.rules.specs.Outcome.{row_report, report_of, over}
 use Rattle.rules.proofs.Results.{report_length}
-use Rattle.report.specs.Shown.{Sending, Shown}
 use Rattle.rules.proofs.Over.{over_more}
 use Rattle.report.proofs.Rows.{row_reported}
 use Rattle.report.proofs.write_report.Goals as goal

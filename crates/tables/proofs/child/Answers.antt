@@ -3,7 +3,6 @@
 use native.Mathlib.Omega.{arith}
 use borrow.Author.Tests.{lt-ltb}
 use Rattle.input.specs.Classes.{child}
-use borrow.Author.Rules.{rules}
 use Rattle.tables.proofs.child.Goals as goal
 
 pub returns-then-r-eq0 : goal.returns-then-r-eq0

@@ -1,7 +1,6 @@
 -- `tables::child_share` meets its contract: a share has 32 bits.
 -- Assumes nothing.
 use native.Mathlib.Omega.{arith}
-use borrow.Author.Rules.{rules}
 use Rattle.tables.proofs.child_share.Goals as goal
 
 pub returns-then-child : goal.returns-then-child

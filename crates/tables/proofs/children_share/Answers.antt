@@ -1,11 +1,10 @@
 -- `tables::children_share` meets its contract: the sum so far is that of the rows passed, and has room for as many shares as there can be rows.
 -- Assumes nothing.
-use Prim.Native.Nat.{◌+◌, ◌*◌, ◌-◌, ◌≤◌}
+use Prim.Native.Nat.{◌+◌}
 use mathlib.Core.Path.{◌≡◌, refl, ap₂}
 use native.Mathlib.Numerals.{add-one}
 use native.Mathlib.Omega.{arith}
-use borrow.Author.Rules.{rules}
-use Rattle.input.specs.Classes.{Tree, children_share}
+use Rattle.input.specs.Classes.{children_share}
 use Rattle.tables.proofs.children_share.Goals as goal
 
 pub loop-r-init : goal.loop-r-init

@@ -2,7 +2,6 @@
 -- Assumes nothing.
 use mathlib.Core.Path.{◌≡◌}
 use mathlib.Core.Bool.{true, false, not}
-use borrow.Author.Rules.{rules}
 use Rattle.input.specs.Shares.{allowed}
 use Rattle.input.specs.Refusals.{class_refused, doubled, first, or_else, given, nothing}
 use Rattle.tables.proofs.Tests.{tests}

@@ -1,6 +1,5 @@
 -- `tables::given` meets its contract: either answer is the definition's.
 -- Assumes nothing.
-use borrow.Author.Rules.{rules}
 use Rattle.input.specs.Refusals.{given}
 use Rattle.tables.proofs.given.Goals as goal
 

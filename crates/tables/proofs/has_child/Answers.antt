@@ -1,12 +1,9 @@
 -- `tables::has_child` meets its contract: none of the rows passed is a child.
 -- Assumes nothing.
-use Prim.Native.Nat.{◌-◌, ◌≤◌}
 use mathlib.Core.Path.{◌≡◌, refl, sym, ◌∙◌}
-use mathlib.Core.Bool.{false}
 use native.Mathlib.Numerals.{add-one}
 use native.Mathlib.Omega.{arith}
-use borrow.Author.Rules.{rules}
-use Rattle.input.specs.Classes.{Tree, has_child}
+use Rattle.input.specs.Classes.{has_child}
 use Rattle.laws.proofs.Tree.Paths.{has_kid}
 use Rattle.tables.proofs.has_child.Goals as goal
 

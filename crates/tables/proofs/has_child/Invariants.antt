@@ -1,13 +1,9 @@
 -- `tables::has_child` meets its contract: none of the rows passed is a child.
 -- Assumes nothing.
 use Prim.Native.Nat.{◌-◌, ◌≤◌}
-use mathlib.Core.Path.{◌≡◌, refl, sym, ◌∙◌}
+use mathlib.Core.Path.{◌≡◌}
 use mathlib.Core.Bool.{false}
-use native.Mathlib.Numerals.{add-one}
-use native.Mathlib.Omega.{arith}
-use borrow.Author.Rules.{rules}
 use Rattle.input.specs.Classes.{Tree, has_child}
-use Rattle.laws.proofs.Tree.Paths.{has_kid}
 use Rattle.tables.proofs.has_child.Given as goal
 
 abbrev pub invariant-loop-r : goal.invariant-loop-r

@@ -2,7 +2,6 @@
 -- Assumes nothing.
 use Prim.Native.Nat.{◌≤◌}
 use native.Mathlib.Omega.{arith}
-use borrow.Author.Rules.{rules}
 use Rattle.input.specs.Limits.{most_rows}
 use Rattle.input.specs.Classes.{Table, earlier, parent_of}
 use Rattle.input.specs.Lent.{table_of}

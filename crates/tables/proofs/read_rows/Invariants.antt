@@ -1,17 +1,11 @@
 -- `tables::read_rows` meets its contract: the lists are those of the rows passed.
 -- Assumes nothing.
 use Prim.Native.Nat.{◌-◌, ◌≤◌}
-use mathlib.Core.Path.{◌≡◌, ap}
-use native.Mathlib.Numerals.{add-one}
-use native.Mathlib.Omega.{arith}
-use borrow.Author.Rules.{rules}
+use mathlib.Core.Path.{◌≡◌}
 use lib.ListN.{length}
-use Rattle.input.specs.Classes.{zeros, read}
-use Rattle.input.specs.Refusals.{first_below}
-use Rattle.tables.specs.declared.Rows.{Rows}
 use Rattle.input.specs.Lent.{table_of}
-use Rattle.tables.specs.Answers.{below, rows_read}
-use Rattle.tables.proofs.OneRow.{rows_of, rows_more}
+use Rattle.tables.specs.Answers.{rows_read}
+use Rattle.tables.proofs.OneRow.{rows_of}
 use Rattle.tables.proofs.read_rows.Given as goal
 
 abbrev pub invariant-loop-r : goal.invariant-loop-r

@@ -1,7 +1,6 @@
 -- `tables::read_sized` meets its contract: the refusal decides which answer it is.
 -- Assumes nothing.
 use mathlib.Core.Path.{◌≡◌, refl, sym, ◌∙◌}
-use borrow.Author.Rules.{rules}
 use Rattle.input.specs.Classes.{Table, tree_of}
 use Rattle.input.specs.Refusals.{table_refused}
 use Rattle.input.specs.Lent.{table_of}
@@ -24,10 +23,13 @@ returns c =
     let rows = c.read_rows-rows in
     let senders = c.senders_of-senders.ensures (tree_of t) (parents_read t rows.result rows.ensures)
     (tree_rows t) in
-    rw (← (let it : c.or_else-refusal.result ≡ table_refused ((let it : Table = table_of c.args.identifiers.now c.args.parent_identifiers.now c.args.shares.now in it)) = let rows = c.read_rows-rows in
-    let t = (let it : Table = table_of c.args.identifiers.now c.args.parent_identifiers.now c.args.shares.now in it) in
-    table_refusal t rows.result rows.ensures c.shares_refused-shares_refusal.result c.or_else-refusal.result
-    (c.shares_refused-shares_refusal.ensures t refl (parents_read t rows.result rows.ensures)
-    (shares_read t rows.result rows.ensures))
-    c.or_else-refusal.ensures in it), answer_accepts c.or_else-refusal.result (tree_of t) c.if-refusal-ne0.false)
+    rw (
+      ← (let it : c.or_else-refusal.result ≡ table_refused ((let it : Table = table_of c.args.identifiers.now c.args.parent_identifiers.now c.args.shares.now in it)) = let rows = c.read_rows-rows in
+          let t = (let it : Table = table_of c.args.identifiers.now c.args.parent_identifiers.now c.args.shares.now in it) in
+          table_refusal t rows.result rows.ensures c.shares_refused-shares_refusal.result c.or_else-refusal.result
+          (c.shares_refused-shares_refusal.ensures t refl (parents_read t rows.result rows.ensures)
+          (shares_read t rows.result rows.ensures))
+          c.or_else-refusal.ensures in it),
+      answer_accepts c.or_else-refusal.result (tree_of t) c.if-refusal-ne0.false,
+    )
     (accepted t rows.result rows.ensures c.or_else-refusal.result c.senders_of-senders.result senders)

@@ -1,7 +1,6 @@
 -- `tables::read_table` meets its contract: 1 is looked for first, and without it the slices are of one length.
 -- Assumes nothing.
 use mathlib.Core.Path.{refl}
-use borrow.Author.Rules.{rules}
 use Rattle.input.specs.Classes.{Table, tree_of}
 use Rattle.input.specs.Refusals.{table_refused}
 use Rattle.input.specs.Lent.{table_of}

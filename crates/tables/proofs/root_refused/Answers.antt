@@ -1,6 +1,5 @@
 -- `tables::root_refused` meets its contract: each answer by the tests on its way.
 -- Assumes nothing.
-use borrow.Author.Rules.{rules}
 use Rattle.tables.proofs.Tests.{tests}
 use Rattle.input.specs.Refusals.{root_refused, first, or_else, given, nothing}
 use Rattle.tables.proofs.root_refused.Goals as goal

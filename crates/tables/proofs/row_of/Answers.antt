@@ -2,7 +2,6 @@
 -- Assumes nothing.
 use mathlib.Core.Path.{◌∙◌, ap}
 use lib.Seq.{take-length}
-use borrow.Author.Rules.{rules}
 use Rattle.input.specs.Classes.{place_of}
 use Rattle.tables.proofs.row_of.Goals as goal
 

@@ -1,6 +1,5 @@
 -- `tables::rows_refused` meets its contract: each answer by the tests on its way.
 -- Assumes nothing.
-use borrow.Author.Rules.{rules}
 use Rattle.tables.proofs.Tests.{tests}
 use Rattle.input.specs.Refusals.{rows_refused, given, nothing}
 use Rattle.tables.proofs.rows_refused.Goals as goal

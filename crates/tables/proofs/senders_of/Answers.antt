@@ -1,11 +1,8 @@
 -- `tables::senders_of` meets its contract: the rows passed have their entries.
 -- Assumes nothing.
-use Prim.Native.Nat.{◌-◌, ◌≤◌}
 use mathlib.Core.Path.{◌≡◌, refl}
 use native.Mathlib.Numerals.{add-one}
 use native.Mathlib.Omega.{arith}
-use borrow.Author.Rules.{rules}
-use Rattle.input.specs.Classes.{Tree}
 use Rattle.tables.specs.Answers.{senders_below}
 use Rattle.tables.proofs.senders_of.Goals as goal
 

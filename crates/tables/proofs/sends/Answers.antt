@@ -6,7 +6,6 @@ use mathlib.Core.Bool.{not}
 use native.Mathlib.Omega.{arith}
 use borrow.Author.Tests.{lt-ltb}
 use Rattle.input.specs.Classes.{has_child, sends}
-use borrow.Author.Rules.{rules}
 use Rattle.tables.proofs.sends.Goals as goal
 
 pub returns-then-r-eq0 : goal.returns-then-r-eq0

@@ -1,15 +1,10 @@
 -- `tables::shares_refused` meets its contract: the refusal so far is that of the rows passed.
 -- Assumes nothing.
-use Prim.Native.Nat.{ℕ, ◌-◌, ◌≤◌}
-use mathlib.Core.Path.{◌≡◌, sym, ◌∙◌, ap, ap₂}
-use native.Mathlib.Numerals.{add-one}
-use native.Mathlib.Omega.{arith}
-use lib.Dec.{ltb}
+use Prim.Native.Nat.{◌-◌, ◌≤◌}
+use mathlib.Core.Path.{◌≡◌}
 use lib.ListN.{length}
-use borrow.Author.Rules.{rules}
-use Rattle.input.specs.Limits.{whole}
-use Rattle.input.specs.Classes.{Table, tree_of, children_share}
-use Rattle.input.specs.Refusals.{given, or_else, first_below, shares_refused}
+use Rattle.input.specs.Classes.{Table, tree_of}
+use Rattle.input.specs.Refusals.{first_below, shares_refused}
 use Rattle.tables.proofs.shares_refused.Given as goal
 
 abbrev pub invariant-loop-p : goal.invariant-loop-p

@@ -1,11 +1,9 @@
 -- `checks::rows::filed` meets its contract: the rows passed are filed.
 -- Assumes nothing.
-use Prim.Native.Nat.{◌-◌, ◌≤◌}
 use mathlib.Core.Path.{◌≡◌, refl}
 use native.Mathlib.Numerals.{add-one}
 use native.Mathlib.Omega.{arith}
 use lib.ListN.{length}
-use borrow.Author.Rules.{rules}
 use Rattle.checks.specs.Filed.{none_filed, rows_filed}
 use Rattle.checks.proofs.rows.filed.Goals as goal
 
