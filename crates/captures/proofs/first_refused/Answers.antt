@@ -3,7 +3,6 @@
 use mathlib.Core.Path.{ap, ap₂, ◌∙◌}
 use Rattle.input.specs.Refusals.{or_else}
 use native.Mathlib.Omega.{arith}
-use borrow.Author.Rules.{rules}
 use Rattle.captures.proofs.first_refused.Goals as goal
 
 pub check_counts-unfit-requires : goal.check_counts-unfit-requires

@@ -4,7 +4,6 @@ use borrow.Author.Tests.{lt-ltb, le-ltb}
 use Rattle.input.specs.Refusals.{given}
 use Rattle.pcap.specs.Outcomes.{list_refused}
 use native.Mathlib.Omega.{arith}
-use borrow.Author.Rules.{rules}
 use Rattle.captures.proofs.list_refused.Goals as goal
 
 pub returns-then-classes-events : goal.returns-then-classes-events

@@ -1,16 +1,14 @@
 -- `replay` meets its contract: what is refused of the capture and of what is lent, or what the replay of its packets leaves.
 -- Assumes nothing.
-use Prim.Native.Nat.{ℕ, ◌*◌, ◌≤◌}
-use mathlib.Core.Path.{◌≡◌, sym}
+use Prim.Native.Nat.{ℕ, ◌≤◌}
+use mathlib.Core.Path.{sym}
 use native.Mathlib.Omega.{arith}
-use borrow.Author.Rules.{rules}
-use lib.ListN.{length, take}
+use lib.ListN.{length}
 use lib.Seq.{length-take-le}
 use Rattle.input.specs.Lent.{table_of, events_of}
-use Rattle.pcap.specs.Lists.{arrivals_with}
 use Rattle.pcap.specs.Outcomes.{CaptureLent}
 use Rattle.captures.specs.Lent.{capture_lent}
-use Rattle.captures.proofs.Whole.{scan_most, refused_captured, found_here, classes_room, lengths_room, run_captured, packets_pass, packets_run, few_records, stamps_small}
+use Rattle.captures.proofs.Whole.{scan_most, refused_captured, found_here, classes_room, lengths_room, packets_pass, packets_run, few_records, stamps_small}
 use Rattle.captures.proofs.replay.Goals as goal
 
 -- ── what is lent ──

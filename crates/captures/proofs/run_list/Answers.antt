@@ -1,8 +1,6 @@
 -- `run_list` meets its contract: the run's own outcome, and its list where it is done.
 -- Assumes nothing.
 use borrow.Author.Tests.{eq-eqb, ne_eqb}
-use native.Mathlib.Omega.{arith}
-use borrow.Author.Rules.{rules}
 use Rattle.captures.proofs.run_list.Goals as goal
 
 pub returns-then-answer-eq0 : goal.returns-then-answer-eq0

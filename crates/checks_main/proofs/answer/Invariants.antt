@@ -1,6 +1,6 @@
 -- `checks_main::answer` is safe and ends: the loop passes the bytes one by one.
 -- Assumes nothing.
-use Rattle.std.proofs.Common.{◌-◌, ◌≤◌, length, rules}
+use Rattle.std.proofs.Common.{◌-◌, ◌≤◌, length}
 use Rattle.checks_main.proofs.answer.Given as goal
 
 abbrev pub invariant-loop-i : goal.invariant-loop-i

@@ -2,7 +2,6 @@
 -- Assumes nothing.
 use Prim.Native.Nat.{ℕ}
 use lib.ListN.{length-replicate}
-use borrow.Author.Rules.{rules}
 use Rattle.heaps.specs.Sizes.{most_heaps, most_members}
 use Rattle.filing.proofs.Outset.{none_waits}
 use Rattle.choosing.specs.Filed.{Filed}

@@ -2,7 +2,6 @@
 -- Assumes nothing.
 use mathlib.Core.Path.{◌≡◌, ◌∙◌}
 use native.Mathlib.Omega.{arith}
-use borrow.Author.Rules.{rules}
 use Rattle.rules.specs.Outcome.{Lent, room_of}
 use Rattle.checks.specs.Counted.{checked}
 use Rattle.engine.specs.Run.{lent_of}

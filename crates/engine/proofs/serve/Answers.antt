@@ -4,13 +4,12 @@ use Prim.Native.Nat.{◌-◌, ◌≤◌, ◌<◌}
 use mathlib.Core.Path.{◌≡◌, refl, sym, ◌∙◌}
 use native.Mathlib.Numerals.{add-one}
 use native.Mathlib.Omega.{arith}
-use lib.ListN.{length, get_or, drop}
+use lib.ListN.{length, get_or}
 use Rattle.input.specs.Limits.{most_events}
 use Rattle.input.specs.Classes.{Tree, sends}
 use Rattle.input.specs.Events.{Events, count}
 use Rattle.rules.specs.Box.{Rows, Box}
 use Rattle.rules.specs.Steps.{after}
-use Rattle.rules.specs.Outcome.{over}
 use Rattle.heaps.specs.Heaps.{forest}
 use Rattle.looking.specs.Arrays.{rows_of}
 use Rattle.input.specs.Lent.{events_of, tree_at}

@@ -1,22 +1,14 @@
 -- `engine::serve` meets its contract. The loop's invariant: the arrays are the box after the events passed, and the order so far is written.
 -- Assumes nothing.
-use Prim.Native.Nat.{◌-◌, ◌≤◌, ◌<◌}
-use mathlib.Core.Path.{◌≡◌, refl, sym, ◌∙◌}
-use native.Mathlib.Numerals.{add-one}
-use native.Mathlib.Omega.{arith}
-use lib.ListN.{length, get_or, drop}
-use Rattle.input.specs.Limits.{most_events}
-use Rattle.input.specs.Classes.{Tree, sends}
-use Rattle.input.specs.Events.{Events, count}
-use Rattle.rules.specs.Box.{Rows, Box}
+use Prim.Native.Nat.{◌-◌, ◌≤◌}
+use mathlib.Core.Path.{◌≡◌}
+use lib.ListN.{length, drop}
 use Rattle.rules.specs.Steps.{after}
 use Rattle.rules.specs.Outcome.{over}
 use Rattle.heaps.specs.Heaps.{forest}
 use Rattle.looking.specs.Arrays.{rows_of}
 use Rattle.input.specs.Lent.{events_of, tree_at}
-use Rattle.events.specs.State.{Fit, Now, Coming}
-use Rattle.engine.specs.Served.{RowsFor}
-use Rattle.engine.proofs.Opening.{cleared_rest, fresh_now, fresh_order, shown, past_now, bytes_now}
+use Rattle.events.specs.State.{Now}
 use Rattle.engine.proofs.serve.Given as goal
 
 abbrev pub invariant-loop-i : goal.invariant-loop-i

@@ -2,7 +2,6 @@
 -- Assumes nothing.
 use mathlib.Core.Path.{◌≡◌}
 use native.Mathlib.Omega.{arith}
-use borrow.Author.Rules.{rules}
 use Rattle.input.specs.declared.Event.TheVariants.{Finish}
 use Rattle.input.specs.Classes.{Tree}
 use Rattle.input.specs.Events.{Events, event}

@@ -1,6 +1,5 @@
 -- `events::step` meets its contract: what comes before the way up, the way up, and what goes on the line are the event.
 -- Assumes nothing.
-use borrow.Author.Rules.{rules}
 use Rattle.input.specs.Classes.{Tree}
 use Rattle.input.specs.Events.{Events}
 use Rattle.input.specs.Lent.{events_of, tree_with}

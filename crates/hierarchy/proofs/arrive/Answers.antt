@@ -2,7 +2,6 @@
 -- Assumes nothing.
 use mathlib.Core.Path.{sym, ◌∙◌}
 use native.Mathlib.Numerals.{add-one}
-use borrow.Author.Rules.{rules}
 use Rattle.hierarchy.specs.Climbing.{front_rows, front_row}
 use Rattle.hierarchy.proofs.arrive.Goals as goal
 

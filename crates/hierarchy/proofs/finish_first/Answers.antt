@@ -1,14 +1,11 @@
 -- `hierarchy::finish_first` meets its contract: what remains to be cleared on the path is all that was to be cleared at first.
 -- Assumes nothing.
-use Prim.Native.Nat.{ℕ, ◌≤◌, ◌<◌}
+use Prim.Native.Nat.{◌≤◌, ◌<◌}
 use mathlib.Core.Path.{refl, ◌∙◌}
-use mathlib.Core.List.{List, []}
 use native.Mathlib.Omega.{arith}
-use borrow.Author.Rules.{rules}
-use Rattle.input.specs.Limits.{most_rows}
 use Rattle.input.specs.Lent.{tree_with}
 use Rattle.rules.specs.Steps.{leaves}
-use Rattle.rules.proofs.OnPath.{Remains, remains_all, remains_less, remains_last, along_by}
+use Rattle.rules.proofs.OnPath.{remains_all, remains_less, remains_last, along_by}
 use Rattle.hierarchy.proofs.finish_first.Goals as goal
 
 pub loop-left-init : goal.loop-left-init

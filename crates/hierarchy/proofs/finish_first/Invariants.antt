@@ -1,14 +1,10 @@
 -- `hierarchy::finish_first` meets its contract: what remains to be cleared on the path is all that was to be cleared at first.
 -- Assumes nothing.
-use Prim.Native.Nat.{ℕ, ◌≤◌, ◌<◌}
-use mathlib.Core.Path.{refl, ◌∙◌}
+use Prim.Native.Nat.{ℕ, ◌<◌}
 use mathlib.Core.List.{List, []}
-use native.Mathlib.Omega.{arith}
-use borrow.Author.Rules.{rules}
 use Rattle.input.specs.Limits.{most_rows}
 use Rattle.input.specs.Lent.{tree_with}
-use Rattle.rules.specs.Steps.{leaves}
-use Rattle.rules.proofs.OnPath.{Remains, remains_all, remains_less, remains_last, along_by}
+use Rattle.rules.proofs.OnPath.{Remains}
 use Rattle.hierarchy.proofs.finish_first.Given as goal
 
 -- what remains to be cleared, from row r at depth d on

@@ -1,7 +1,6 @@
 -- `hierarchy::renew` meets its contract: 0 stands for no packet.
 -- Assumes nothing.
 use mathlib.Core.Path.{sym}
-use borrow.Author.Rules.{rules}
 use Rattle.hierarchy.proofs.Later.{renews_none, renews_some}
 use Rattle.hierarchy.proofs.renew.Goals as goal
 

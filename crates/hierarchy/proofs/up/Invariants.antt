@@ -1,19 +1,11 @@
 -- `hierarchy::up` meets its contract: a choice at each row that is left is within the tags' leeway, and what remains to be done
 -- is all that was to be done at first.
 -- Assumes nothing.
-use Prim.Native.Nat.{◌<◌, ◌*◌}
-use mathlib.Core.Path.{sym, ◌∙◌}
-use native.Mathlib.Omega.{arith}
-use borrow.Author.Rules.{rules}
-use Rattle.input.specs.Limits.{most_rows}
+use Prim.Native.Nat.{◌*◌}
 use Rattle.heaps.specs.Heaps.{forest}
 use Rattle.looking.specs.Arrays.{rows_of}
 use Rattle.choosing.specs.Sizes.{Leeway, most_choice}
-use Rattle.choosing.proofs.Ticks.{less_leeway}
-use Rattle.hierarchy.specs.Sizes.{most_climb}
-use Rattle.hierarchy.specs.Climbing.{Climbs}
-use Rattle.hierarchy.proofs.Climb.{Rising, rising_all, rising_done, rising_stops, rising_chooses, rising_goes}
-use Rattle.hierarchy.proofs.Enough.{chosen_leeway}
+use Rattle.hierarchy.proofs.Climb.{Rising}
 use Rattle.hierarchy.proofs.up.Given as goal
 
 abbrev pub invariant-loop-d : goal.invariant-loop-d

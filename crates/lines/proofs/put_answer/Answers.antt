@@ -1,7 +1,6 @@
 -- `csv::lines::put_answer` meets its contract: its parts one after the other.
 -- Assumes nothing.
 use mathlib.Core.Path.{ap, ◌∙◌}
-use borrow.Author.Rules.{rules}
 use Rattle.output.specs.Quoted.{bytes_of}
 use Rattle.output.specs.Pages.{with_text}
 use Rattle.forms.specs.Bytes.{answer_heading}

@@ -1,6 +1,5 @@
 -- `csv::lines::put_end` meets its contract: one byte after the other.
 -- Assumes nothing.
-use borrow.Author.Rules.{rules}
 use Rattle.output.proofs.Pages.{then}
 use Rattle.lines.proofs.put_end.Goals as goal
 

@@ -1,6 +1,5 @@
 -- `csv::lines::put_field` meets its contract: the number, the comma.
 -- Assumes nothing.
-use borrow.Author.Rules.{rules}
 use Rattle.output.proofs.Pages.{then}
 use Rattle.lines.proofs.put_field.Goals as goal
 

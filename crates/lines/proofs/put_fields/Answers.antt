@@ -1,12 +1,11 @@
 -- `csv::lines::put_fields` meets its contract. The loop's invariant: the words passed are put, a comma after each.
 -- Assumes nothing.
-use Prim.Native.Nat.{◌≤◌, ◌-◌}
+use Prim.Native.Nat.{◌-◌}
 use mathlib.Core.Path.{◌≡◌, ap, ◌∙◌}
 use native.Mathlib.Numerals.{add-one}
 use native.Mathlib.Omega.{arith}
-use lib.ListN.{length}
 use borrow.Author.Rules.{rules}
-use Rattle.output.specs.Pages.{Puts, with_text}
+use Rattle.output.specs.Pages.{with_text}
 use Rattle.forms.specs.Texts.{report_fields}
 use Rattle.input.specs.Limits.{report_words}
 use Rattle.lines.proofs.Parts.{fields_turn}

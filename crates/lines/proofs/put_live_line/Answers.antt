@@ -1,6 +1,5 @@
 -- `put_live_line` meets its contract: its parts one after the other.
 -- Assumes nothing.
-use borrow.Author.Rules.{rules}
 use Rattle.output.proofs.Pages.{then}
 use Rattle.forms.specs.Texts.{live_line}
 use Rattle.lines.proofs.put_live_line.Goals as goal

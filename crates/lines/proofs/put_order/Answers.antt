@@ -4,7 +4,6 @@ use mathlib.Core.Path.{◌≡◌, sym}
 use native.Mathlib.Omega.{arith}
 use lib.ListN.{take}
 use lib.Seq.{take_all, length-take-le}
-use borrow.Author.Rules.{rules}
 use Rattle.output.specs.Quoted.{bytes_of}
 use Rattle.forms.specs.Texts.{order_text}
 use Rattle.forms.specs.Bytes.{order_heading}

@@ -1,6 +1,5 @@
 -- `csv::lines::put_report` meets its contract: the heading, its end, the rows.
 -- Assumes nothing.
-use borrow.Author.Rules.{rules}
 use Rattle.output.specs.Quoted.{bytes_of}
 use Rattle.forms.specs.Texts.{report_text}
 use Rattle.forms.specs.Bytes.{report_heading}

@@ -4,7 +4,6 @@ use mathlib.Core.Path.{◌≡◌, ap, ◌∙◌}
 use mir.Syntax.{w64}
 use mir.Val.{to_z, of_z}
 use mir.ValLaws.{to_z-of_z}
-use borrow.Author.Rules.{rules}
 use Rattle.output.specs.Pages.{with_text}
 use Rattle.output.proofs.Pages.{then}
 use Rattle.lines.proofs.Parts.{report_parts}

@@ -1,6 +1,6 @@
 -- `csv::lines::put_report_lines` meets its contract. The loop's invariant: the lines of the rows passed are put.
 -- Assumes nothing.
-use Prim.Native.Nat.{◌≤◌, ◌-◌}
+use Prim.Native.Nat.{◌-◌}
 use mathlib.Core.Path.{◌≡◌, ◌∙◌}
 use native.Mathlib.Numerals.{add-one}
 use native.Mathlib.Omega.{arith}
@@ -9,7 +9,7 @@ use mir.Syntax.{w64}
 use mir.Val.{to_z, of_z}
 use mir.ValLaws.{to_z-of_z}
 use borrow.Author.Rules.{rules}
-use Rattle.output.specs.Pages.{Puts, with_text}
+use Rattle.output.specs.Pages.{with_text}
 use Rattle.forms.specs.Texts.{report_line, report_lines}
 use Rattle.output.proofs.Pages.{then}
 use Rattle.lines.proofs.put_report_lines.Goals as goal

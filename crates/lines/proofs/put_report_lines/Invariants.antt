@@ -1,17 +1,10 @@
 -- `csv::lines::put_report_lines` meets its contract. The loop's invariant: the lines of the rows passed are put.
 -- Assumes nothing.
 use Prim.Native.Nat.{◌≤◌, ◌-◌}
-use mathlib.Core.Path.{◌≡◌, ◌∙◌}
-use native.Mathlib.Numerals.{add-one}
-use native.Mathlib.Omega.{arith}
+use mathlib.Core.Path.{◌≡◌}
 use lib.ListN.{length}
-use mir.Syntax.{w64}
-use mir.Val.{to_z, of_z}
-use mir.ValLaws.{to_z-of_z}
-use borrow.Author.Rules.{rules}
-use Rattle.output.specs.Pages.{Puts, with_text}
-use Rattle.forms.specs.Texts.{report_line, report_lines}
-use Rattle.output.proofs.Pages.{then}
+use Rattle.output.specs.Pages.{Puts}
+use Rattle.forms.specs.Texts.{report_lines}
 use Rattle.lines.proofs.put_report_lines.Given as goal
 
 abbrev pub invariant-loop-r : goal.invariant-loop-r

@@ -1,7 +1,6 @@
 -- `csv::lines::put_row` meets its contract: its parts one after the other.
 -- Assumes nothing.
 use mathlib.Core.Path.{ap, ◌∙◌}
-use borrow.Author.Rules.{rules}
 use Rattle.output.specs.Pages.{with_text}
 use Rattle.lines.proofs.Parts.{row_parts}
 use Rattle.output.proofs.Pages.{then}

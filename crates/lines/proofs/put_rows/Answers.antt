@@ -1,14 +1,13 @@
 -- `csv::lines::put_rows` meets its contract. The loop's invariant: the lines of the rows passed are put.
 -- Assumes nothing.
-use Prim.Native.Nat.{◌≤◌, ◌-◌}
+use Prim.Native.Nat.{◌-◌}
 use mathlib.Core.Path.{◌≡◌, ◌∙◌}
 use native.Mathlib.Numerals.{add-one}
 use native.Mathlib.Omega.{arith}
 use lib.ListN.{length}
 use borrow.Author.Rules.{rules}
-use Rattle.output.specs.Pages.{Puts, with_text}
+use Rattle.output.specs.Pages.{with_text}
 use Rattle.forms.specs.Texts.{row_lines}
-use Rattle.input.specs.Lent.{table_of}
 use Rattle.output.proofs.Pages.{then}
 use Rattle.lines.proofs.put_rows.Goals as goal
 

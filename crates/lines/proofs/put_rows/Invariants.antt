@@ -1,15 +1,11 @@
 -- `csv::lines::put_rows` meets its contract. The loop's invariant: the lines of the rows passed are put.
 -- Assumes nothing.
 use Prim.Native.Nat.{◌≤◌, ◌-◌}
-use mathlib.Core.Path.{◌≡◌, ◌∙◌}
-use native.Mathlib.Numerals.{add-one}
-use native.Mathlib.Omega.{arith}
+use mathlib.Core.Path.{◌≡◌}
 use lib.ListN.{length}
-use borrow.Author.Rules.{rules}
-use Rattle.output.specs.Pages.{Puts, with_text}
+use Rattle.output.specs.Pages.{Puts}
 use Rattle.forms.specs.Texts.{row_lines}
 use Rattle.input.specs.Lent.{table_of}
-use Rattle.output.proofs.Pages.{then}
 use Rattle.lines.proofs.put_rows.Given as goal
 
 abbrev pub invariant-loop-r : goal.invariant-loop-r

@@ -1,7 +1,6 @@
 -- `csv::lines::put_run` meets its contract: the answer alone, or with the order and the report.
 -- Assumes nothing.
 use mathlib.Core.Path.{ap, ◌∙◌}
-use borrow.Author.Rules.{rules}
 use Rattle.output.specs.Pages.{with_text}
 use Rattle.output.proofs.Pages.{then}
 use Rattle.lines.proofs.Parts.{run_refused, run_done}

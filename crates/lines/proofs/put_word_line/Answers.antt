@@ -1,6 +1,5 @@
 -- `csv::lines::put_word_line` meets its contract: the word, its end.
 -- Assumes nothing.
-use borrow.Author.Rules.{rules}
 use Rattle.output.proofs.Pages.{then}
 use Rattle.lines.proofs.put_word_line.Goals as goal
 

@@ -1,11 +1,11 @@
 -- `csv::lines::put_words` meets its contract. The loop's invariant: the lines of the words that remain, put on the page as it is, are all of them
 -- put on the page as it was.
 -- Assumes nothing.
-use Prim.Native.Nat.{◌≤◌, ◌-◌}
+use Prim.Native.Nat.{◌-◌}
 use mathlib.Core.Path.{◌≡◌, ◌∙◌}
 use mathlib.Core.List.{[]}
 use native.Mathlib.Omega.{arith}
-use lib.ListN.{length, drop, drop_of_length-le}
+use lib.ListN.{drop, drop_of_length-le}
 use borrow.Author.Rules.{rules}
 use Rattle.output.specs.Pages.{page_of, with_text}
 use Rattle.forms.specs.Texts.{word_lines}

@@ -2,14 +2,10 @@
 -- put on the page as it was.
 -- Assumes nothing.
 use Prim.Native.Nat.{◌≤◌, ◌-◌}
-use mathlib.Core.Path.{◌≡◌, ◌∙◌}
-use mathlib.Core.List.{[]}
-use native.Mathlib.Omega.{arith}
-use lib.ListN.{length, drop, drop_of_length-le}
-use borrow.Author.Rules.{rules}
+use mathlib.Core.Path.{◌≡◌}
+use lib.ListN.{length, drop}
 use Rattle.output.specs.Pages.{page_of, with_text}
 use Rattle.forms.specs.Texts.{word_lines}
-use Rattle.lines.proofs.WordLines.{words_turn}
 use Rattle.lines.proofs.put_words.Given as goal
 
 abbrev pub invariant-loop-i : goal.invariant-loop-i

@@ -1,19 +1,14 @@
 -- `list` meets its contract. The loop's invariant: the arrays are those of the box after the events so far, which are the list's first.
 -- Assumes nothing.
-use Prim.Native.Nat.{◌-◌, ◌*◌, ◌≤◌, ◌<◌}
-use mathlib.Core.Path.{◌≡◌, refl, sym, ◌∙◌}
-use native.Mathlib.Numerals.{add-one}
-use native.Mathlib.Omega.{arith}
+use Prim.Native.Nat.{◌-◌, ◌≤◌}
+use mathlib.Core.Path.{◌≡◌}
 use lib.ListN.{length}
 use Rattle.input.specs.Limits.{most_events}
-use Rattle.input.specs.Classes.{Tree}
 use Rattle.input.specs.Lent.{tree_at}
 use Rattle.heaps.specs.Heaps.{forest}
 use Rattle.looking.specs.Arrays.{rows_of}
-use Rattle.pcap.specs.Lists.{Stamped, Arrivals, arrivals_with}
-use Rattle.listing.specs.Reached.{Ground, Roomy, Reached, Turned}
-use Rattle.listing.proofs.Ends.{outset, refused_at, refused_none}
-use borrow.Author.Rules.{rules}
+use Rattle.pcap.specs.Lists.{arrivals_with}
+use Rattle.listing.specs.Reached.{Reached}
 use Rattle.listing.proofs.list.Given as goal
 
 abbrev pub invariant-loop-i : goal.invariant-loop-i

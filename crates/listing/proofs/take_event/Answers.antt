@@ -1,11 +1,8 @@
 -- `take_event` meets its contract: the event that comes next is refused as the rules say, or leads one place further.
 -- Assumes nothing.
-use Prim.Native.Nat.{suc, ◌+◌, ◌≤◌, ◌<◌}
+use Prim.Native.Nat.{suc, ◌+◌, ◌≤◌}
 use mathlib.Core.Path.{◌≡◌, sym}
-use mathlib.Core.List.{List}
-use native.Mathlib.Numerals.{add-one}
 use native.Mathlib.Omega.{arith}
-use borrow.Author.Rules.{rules}
 use lib.Dec.{eqb}
 use lib.ListN.{length, set, take, length-set}
 use lib.Seq.{length-take-le}
@@ -20,7 +17,7 @@ use Rattle.checks.specs.Counted.{Meets}
 use Rattle.events.specs.State.{Coming}
 use Rattle.pcap.specs.Lists.{Stamped, Arrivals, arrivals_with, progress, listed}
 use Rattle.listing.specs.Next.{NextIs}
-use Rattle.listing.specs.Reached.{Ground, Roomy, Reached, Turned}
+use Rattle.listing.specs.Reached.{Ground, Roomy, Reached}
 use Rattle.listing.proofs.Turning.{met_as, comes_as, gone_as, idle_is, few_arrived, moment_low, lent_list, refusal_is, comes, line_length, goes_on}
 use Rattle.listing.proofs.take_event.Goals as goal
 

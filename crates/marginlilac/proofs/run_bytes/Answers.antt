@@ -2,7 +2,6 @@
 -- Assumes nothing.
 use mathlib.Core.Path.{◌≡◌, ◌∙◌}
 use native.Mathlib.Omega.{arith}
-use borrow.Author.Rules.{rules}
 use Rattle.marginlilac.specs.Exported.{LentBytes, lent_bytes, spare_of, untouched}
 use Rattle.marginlilac.specs.Held.{Bytes}
 use Rattle.marginlilac.proofs.Writing.{refused_bytes}

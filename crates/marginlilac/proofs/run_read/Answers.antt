@@ -1,6 +1,5 @@
 -- `marginlilac::run_read` meets its contract: the engine runs on the words of the bytes.
 -- Assumes nothing.
-use borrow.Author.Rules.{rules}
 use Rattle.marginlilac.proofs.Reading.{words_are, words_many}
 use Rattle.marginlilac.proofs.run_read.Goals as goal
 

@@ -6,7 +6,6 @@ use mathlib.Core.Logic.{◌≢◌}
 use native.Mathlib.Omega.{arith}
 use lib.ListN.{length, length-replicate}
 use lib.IntN.{pos}
-use borrow.Author.Rules.{rules}
 use Rattle.input.specs.declared.Answer.{Answer}
 use Rattle.input.specs.Limits.{most_rows, most_events, report_words}
 use Rattle.rules.specs.Outcome.{outcome}

@@ -1,7 +1,6 @@
 -- `marginlilac::spare` meets its contract.
 -- Assumes nothing.
 use native.Mathlib.Omega.{arith}
-use borrow.Author.Rules.{rules}
 use Rattle.marginlilac.specs.Exported.{spare}
 use Rattle.marginlilac.proofs.spare.Goals as goal
 

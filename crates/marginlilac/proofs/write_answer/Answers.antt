@@ -1,7 +1,6 @@
 -- `marginlilac::write_answer` meets its contract: sixteen bytes are all.
 -- Assumes nothing.
 use mathlib.Core.Path.{sym, ◌∙◌}
-use borrow.Author.Rules.{rules}
 use Rattle.octets.specs.Octets.{bytes_of}
 use Rattle.octets.proofs.Laws.{length_bytes}
 use Rattle.marginlilac.specs.Exported.{answer_bytes}

@@ -3,7 +3,6 @@
 use Prim.Native.Nat.{ℕ}
 use lib.ListN.{length-replicate}
 use native.Mathlib.Omega.{arith}
-use borrow.Author.Rules.{rules}
 use Rattle.input.specs.Classes.{Tree}
 use Rattle.input.specs.Lent.{tree_with}
 use Rattle.rules.specs.Box.{Rows, left}

@@ -1,6 +1,5 @@
 -- `moving::on_line` meets its contract, by whether there is a head and whether the line is idle.
 -- Assumes nothing.
-use borrow.Author.Rules.{rules}
 use Rattle.moving.proofs.Sending.{no_head, goes_on_line, busy_line}
 use Rattle.moving.proofs.on_line.Goals as goal
 

@@ -9,7 +9,6 @@ use lib.Signed.{lt_z}
 use mir.Syntax.{w64}
 use mir.Val.{to_z, of_z, bool_byte}
 use mir.ValLaws.{of_z_fits, to_z-of_z}
-use borrow.Author.Rules.{rules}
 use Rattle.octets.proofs.Turns.{low_bits, all_bits}
 use Rattle.octets.proofs.bits.Goals as goal
 

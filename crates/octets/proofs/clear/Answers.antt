@@ -1,10 +1,10 @@
 -- `octets::clear` meets its contract. The loop's invariant: as many bytes as were passed are 0, over what was lent.
 -- Assumes nothing.
-use Prim.Native.Nat.{ℕ, ◌-◌, ◌≤◌}
+use Prim.Native.Nat.{ℕ, ◌-◌}
 use mathlib.Core.Path.{◌≡◌, refl}
 use mathlib.Core.List.{[], ◌∷◌}
 use native.Mathlib.Omega.{arith}
-use lib.ListN.{length, replicate, length-replicate, length-set, replicate-append-replicate}
+use lib.ListN.{replicate, length-replicate, length-set, replicate-append-replicate}
 use borrow.Author.Rules.{rules}
 use Rattle.rules.specs.Outcome.{over}
 use Rattle.rules.proofs.Over.{over_more}

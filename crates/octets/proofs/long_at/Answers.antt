@@ -1,6 +1,5 @@
 -- `octets::long_at` meets its contract, by its halves.
 -- Assumes nothing.
-use native.Mathlib.Omega.{arith}
 use borrow.Author.Rules.{rules}
 use Rattle.octets.proofs.Turns.{eight_at}
 use Rattle.octets.proofs.long_at.Goals as goal

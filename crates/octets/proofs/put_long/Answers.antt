@@ -1,7 +1,6 @@
 -- `octets::put_long` meets its contract: the lower half, then the higher.
 -- Assumes nothing.
 use mathlib.Core.Path.{◌∙◌}
-use borrow.Author.Rules.{rules}
 use Rattle.octets.proofs.Turns.{halves}
 use Rattle.octets.proofs.put_long.Goals as goal
 

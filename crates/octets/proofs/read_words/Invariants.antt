@@ -1,13 +1,10 @@
 -- `octets::read_words` meets its contract. The loop's invariant: the words of the bytes passed are written over what was lent.
 -- Assumes nothing.
-use Prim.Native.Nat.{◌-◌, ◌/◌, ◌≤◌}
-use mathlib.Core.Path.{◌≡◌, refl}
-use native.Mathlib.Omega.{arith}
-use lib.ListN.{length, length-set}
-use borrow.Author.Rules.{rules}
+use Prim.Native.Nat.{◌-◌, ◌≤◌}
+use mathlib.Core.Path.{◌≡◌}
+use lib.ListN.{length}
 use Rattle.rules.specs.Outcome.{over}
-use Rattle.octets.specs.Octets.{words_below, words_of}
-use Rattle.octets.proofs.Turns.{read_turn}
+use Rattle.octets.specs.Octets.{words_below}
 use Rattle.octets.proofs.read_words.Given as goal
 
 abbrev pub invariant-loop-i : goal.invariant-loop-i

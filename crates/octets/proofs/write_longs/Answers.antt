@@ -1,9 +1,8 @@
 -- `octets::write_longs` meets its contract. The loop's invariant: the bytes of the words passed are written over what was lent.
 -- Assumes nothing.
-use Prim.Native.Nat.{◌-◌, ◌≤◌}
+use Prim.Native.Nat.{◌-◌}
 use mathlib.Core.Path.{◌≡◌, refl, ◌∙◌}
 use native.Mathlib.Omega.{arith}
-use lib.ListN.{length, take}
 use borrow.Author.Rules.{rules}
 use Rattle.rules.specs.Outcome.{over}
 use Rattle.octets.specs.Octets.{bytes_of}

@@ -1,13 +1,10 @@
 -- `octets::write_longs` meets its contract. The loop's invariant: the bytes of the words passed are written over what was lent.
 -- Assumes nothing.
 use Prim.Native.Nat.{◌-◌, ◌≤◌}
-use mathlib.Core.Path.{◌≡◌, refl, ◌∙◌}
-use native.Mathlib.Omega.{arith}
+use mathlib.Core.Path.{◌≡◌}
 use lib.ListN.{length, take}
-use borrow.Author.Rules.{rules}
 use Rattle.rules.specs.Outcome.{over}
 use Rattle.octets.specs.Octets.{bytes_of}
-use Rattle.octets.proofs.Turns.{write_turn}
 use Rattle.octets.proofs.write_longs.Given as goal
 
 abbrev pub invariant-loop-i : goal.invariant-loop-i

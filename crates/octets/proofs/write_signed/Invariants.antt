@@ -1,16 +1,10 @@
 -- `octets::write_signed` meets its contract. The loop's invariant: the bytes of the words passed are written over what was lent.
 -- Assumes nothing.
 use Prim.Native.Nat.{◌-◌, ◌≤◌}
-use mathlib.Core.Path.{◌≡◌, refl, ◌∙◌}
-use native.Mathlib.Omega.{arith}
-use lib.IntN.{pos}
-use lib.ListN.{length, get_or, take}
-use mir.Syntax.{w64}
-use mir.ValLaws.{to_z-of_z}
-use borrow.Author.Rules.{rules}
+use mathlib.Core.Path.{◌≡◌}
+use lib.ListN.{length, take}
 use Rattle.rules.specs.Outcome.{over}
-use Rattle.octets.specs.Octets.{bytes_of, signed_bytes_of}
-use Rattle.octets.proofs.Turns.{signed_turn}
+use Rattle.octets.specs.Octets.{signed_bytes_of}
 use Rattle.octets.proofs.write_signed.Given as goal
 
 abbrev pub invariant-loop-i : goal.invariant-loop-i

@@ -1,10 +1,8 @@
 -- `sheet::after` meets its contract: the steps that are left, from where the loop stands, give what all of them give.
 -- Assumes nothing.
-use Prim.Native.Nat.{suc, ◌-◌, ◌<◌}
+use Prim.Native.Nat.{suc, ◌-◌}
 use mathlib.Core.Path.{◌≡◌, refl}
-use mathlib.Core.Bool.{true}
 use native.Mathlib.Omega.{arith}
-use borrow.Author.Rules.{rules}
 use Rattle.sheet.specs.Paper.{climbing, worked}
 use Rattle.sheet.proofs.Figures.{step_some}
 use Rattle.sheet.proofs.after.Goals as goal

@@ -7,8 +7,6 @@ use mathlib.Core.List.{List}
 use native.Mathlib.Omega.{arith}
 use lib.Dec.{eqb}
 use lib.ListN.{get_or}
-use borrow.Author.Rules.{rules}
-use borrow.Author.Tests.{not-true, not-false}
 use Rattle.input.specs.Limits.{scale}
 use Rattle.sheet.specs.Paper.{dividing}
 use Rattle.sheet.proofs.all_divide.Goals as goal

@@ -1,11 +1,6 @@
 -- `sheet::common` meets its contract: every turn keeps what divides both numbers.
 -- Assumes nothing.
 use Prim.Native.Nat.{ℕ, ◌<◌, ◌∣◌}
-use mathlib.Core.Path.{◌≡◌, sym}
-use native.Mathlib.Nat.{dvd_refl, dvd-zero, dvd-mod_iff, le_of_dvd, mod-lt}
-use native.Mathlib.Omega.{arith}
-use borrow.Author.Rules.{rules}
-use Rattle.sheet.proofs.Greatest.{greatest_is}
 use Rattle.sheet.proofs.common.Given as goal
 
 abbrev pub invariant-loop-x : goal.invariant-loop-x

@@ -1,6 +1,5 @@
 -- `sheet::lowest` meets its contract.
 -- Assumes nothing.
-use borrow.Author.Rules.{rules}
 use Rattle.sheet.specs.Paper.{lowest}
 use Rattle.sheet.proofs.Greatest.{greatest_some}
 use Rattle.sheet.proofs.lowest.Goals as goal

@@ -2,8 +2,6 @@
 -- Assumes nothing.
 use mathlib.Core.Path.{sym, ◌∙◌}
 use native.Mathlib.Nat.{mul-pos}
-use borrow.Author.Rules.{rules}
-use borrow.Author.Tests.{not-true, not-false}
 use Rattle.sheet.proofs.Tests.{passed, failed}
 use Rattle.sheet.proofs.Figures.{fits_both, numerator_over, denominator_over}
 use Rattle.sheet.proofs.product.Goals as goal

@@ -1,6 +1,5 @@
 -- `sheet::step` meets its contract: by the share, and then the ticks.
 -- Assumes nothing.
-use borrow.Author.Rules.{rules}
 use Rattle.sheet.specs.Paper.{stepped}
 use Rattle.sheet.proofs.Figures.{share_some}
 use Rattle.sheet.proofs.step.Goals as goal

@@ -1,6 +1,5 @@
 -- `sheet::sum` meets its contract.
 -- Assumes nothing.
-use borrow.Author.Rules.{rules}
 use Rattle.sheet.specs.Paper.{ratio_of, sum_of}
 use Rattle.sheet.proofs.Greatest.{greatest_some}
 use Rattle.sheet.proofs.Figures.{times_some}

@@ -1,7 +1,6 @@
 -- `sheet::sum_fits` meets its contract: the difference is compared in place of the sum.
 -- Assumes nothing.
 use native.Mathlib.Omega.{arith}
-use borrow.Author.Rules.{rules}
 use Rattle.sheet.proofs.Tests.{sum_test}
 use Rattle.sheet.proofs.sum_fits.Goals as goal
 

@@ -4,8 +4,6 @@ use Prim.Native.Nat.{ℕ, ◌+◌, ◌≤◌}
 use mathlib.Core.Path.{sym, ◌∙◌}
 use native.Mathlib.Nat.{mul-pos}
 use native.Mathlib.Omega.{arith}
-use borrow.Author.Rules.{rules}
-use borrow.Author.Tests.{not-true, not-false}
 use Rattle.sheet.proofs.Tests.{passed, failed}
 use Rattle.sheet.proofs.Figures.{fits_both, numerator_over, denominator_over}
 use Rattle.sheet.proofs.sum_over.Goals as goal

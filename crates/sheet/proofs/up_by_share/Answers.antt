@@ -1,13 +1,12 @@
 -- `sheet::up_by_share` meets its contract: whatever is found too large makes the numerator so.
 -- Assumes nothing.
-use Prim.Native.Nat.{◌+◌, ◌*◌, ◌≤◌}
-use mathlib.Core.Path.{◌≡◌, sym, ◌∙◌}
+use Prim.Native.Nat.{◌*◌, ◌≤◌}
+use mathlib.Core.Path.{sym, ◌∙◌}
 use native.Mathlib.Omega.{arith}
-use borrow.Author.Rules.{rules}
 use borrow.Author.Tests.{not-true, not-false}
 use Rattle.input.specs.Limits.{packets_a_step}
 use Rattle.rules.specs.Promise.{whole_over, step_up}
-use Rattle.sheet.specs.Paper.{limit, outgrown, by_share}
+use Rattle.sheet.specs.Paper.{limit, outgrown}
 use Rattle.sheet.proofs.Tests.{passed, failed}
 use Rattle.sheet.proofs.Figures.{denominator_some, stays_outgrown, over_nothing, steps_up, too_many}
 use Rattle.sheet.proofs.up_by_share.Goals as goal

@@ -4,7 +4,6 @@ use mathlib.Core.Path.{sym, refl, ◌∙◌, ap}
 use mathlib.Core.List.{[]}
 use native.Mathlib.Omega.{arith}
 use lib.Dec.{lit<}
-use borrow.Author.Rules.{rules}
 use Rattle.rules.specs.Box.{Rows, head_class, head_length}
 use Rattle.choosing.specs.Sizes.{most_charge}
 use Rattle.hierarchy.proofs.Later.{renews_first}

@@ -1,12 +1,10 @@
 -- `close` meets its contract: the gap comes one place further at each turn.
 -- Assumes nothing.
-use Prim.Native.Nat.{◌-◌, ◌≤◌, ◌<◌}
-use mathlib.Core.Path.{◌≡◌, refl}
-use lib.ListN.{length, length-set}
-use lib.Seq.{sets}
-use Rattle.storing.proofs.Packets.{front, closed_none, closed_turn, closed_all}
+use Prim.Native.Nat.{◌-◌}
+use mathlib.Core.Path.{refl}
+use lib.ListN.{length-set}
+use Rattle.storing.proofs.Packets.{closed_none, closed_turn, closed_all}
 use native.Mathlib.Omega.{arith}
-use borrow.Author.Rules.{rules}
 use Rattle.storing.proofs.close.Goals as goal
 
 pub loop-j-init : goal.loop-j-init

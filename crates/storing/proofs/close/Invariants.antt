@@ -1,12 +1,10 @@
 -- `close` meets its contract: the gap comes one place further at each turn.
 -- Assumes nothing.
 use Prim.Native.Nat.{◌-◌, ◌≤◌, ◌<◌}
-use mathlib.Core.Path.{◌≡◌, refl}
-use lib.ListN.{length, length-set}
+use mathlib.Core.Path.{◌≡◌}
+use lib.ListN.{length}
 use lib.Seq.{sets}
-use Rattle.storing.proofs.Packets.{front, closed_none, closed_turn, closed_all}
-use native.Mathlib.Omega.{arith}
-use borrow.Author.Rules.{rules}
+use Rattle.storing.proofs.Packets.{front}
 use Rattle.storing.proofs.close.Given as goal
 
 abbrev pub invariant-loop-j : goal.invariant-loop-j

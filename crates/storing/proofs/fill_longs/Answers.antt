@@ -1,13 +1,11 @@
 -- `fill_longs` meets its contract: a row more at each turn.
 -- Assumes nothing.
-use Prim.Native.Nat.{◌-◌, ◌≤◌}
+use Prim.Native.Nat.{◌-◌}
 use mathlib.Core.Path.{◌≡◌, refl, ◌∙◌}
 use Rattle.input.specs.Classes.{zeros}
-use Rattle.live_rules.specs.Layout.{rows_at}
 use Rattle.live_rules.proofs.Rows.{rows_none}
 use Rattle.storing.proofs.Turns.{read_turn}
 use native.Mathlib.Omega.{arith}
-use borrow.Author.Rules.{rules}
 use Rattle.storing.proofs.fill_longs.Goals as goal
 
 pub loop-r-init : goal.loop-r-init

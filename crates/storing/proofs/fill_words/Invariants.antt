@@ -1,19 +1,12 @@
 -- `fill_words` meets its contract: a row more at each turn, so long as it fits.
 -- Assumes nothing.
 use Prim.Native.Nat.{ℕ, ◌+◌, ◌-◌, ◌≤◌}
-use mathlib.Core.Path.{◌≡◌, sym, ◌∙◌}
-use mathlib.Core.Bool.{Bool, true}
+use mathlib.Core.Path.{◌≡◌}
+use mathlib.Core.Bool.{true}
 use lib.Dec.{leb}
 use lib.ListN.{get_or}
-use borrow.Author.Tests.{le-leb, lt-leb}
-use Rattle.input.specs.Classes.{zeros}
 use Rattle.live_rules.specs.Layout.{rows_at}
 use Rattle.live_rules.specs.Soundness.{all}
-use Rattle.live_rules.proofs.Rows.{rows_none}
-use Rattle.live_rules.proofs.Alls.{all_none, all_more, all_fails}
-use Rattle.storing.proofs.Turns.{read_turn}
-use native.Mathlib.Omega.{arith}
-use borrow.Author.Rules.{rules}
 use Rattle.storing.proofs.fill_words.Given as goal
 
 abbrev pub invariant-loop-r : goal.invariant-loop-r

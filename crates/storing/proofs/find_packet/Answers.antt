@@ -1,14 +1,9 @@
 -- `find_packet` meets its contract: what remains to be looked through has the packet at its place.
 -- Assumes nothing.
-use Prim.Native.Nat.{◌+◌, ◌-◌, ◌≤◌}
-use mathlib.Core.Path.{◌≡◌}
+use Prim.Native.Nat.{◌-◌}
 use native.Mathlib.Numerals.{add-one}
-use lib.ListN.{drop}
-use Rattle.live_rules.specs.State.{packets_at}
-use Rattle.storing.specs.Packets.{place_of}
 use Rattle.storing.proofs.Packets.{found_here, found_later, found_none}
 use native.Mathlib.Omega.{arith}
-use borrow.Author.Rules.{rules}
 use Rattle.storing.proofs.find_packet.Goals as goal
 
 pub loop-i-init : goal.loop-i-init

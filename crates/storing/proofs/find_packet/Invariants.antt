@@ -2,13 +2,9 @@
 -- Assumes nothing.
 use Prim.Native.Nat.{◌+◌, ◌-◌, ◌≤◌}
 use mathlib.Core.Path.{◌≡◌}
-use native.Mathlib.Numerals.{add-one}
 use lib.ListN.{drop}
 use Rattle.live_rules.specs.State.{packets_at}
 use Rattle.storing.specs.Packets.{place_of}
-use Rattle.storing.proofs.Packets.{found_here, found_later, found_none}
-use native.Mathlib.Omega.{arith}
-use borrow.Author.Rules.{rules}
 use Rattle.storing.proofs.find_packet.Given as goal
 
 abbrev pub invariant-loop-i : goal.invariant-loop-i

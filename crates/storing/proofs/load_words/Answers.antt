@@ -1,7 +1,6 @@
 -- `load_words` meets its contract: a fresh array is one of zeros.
 -- Assumes nothing.
 use mathlib.Core.Path.{refl}
-use borrow.Author.Rules.{rules}
 use Rattle.input.specs.Classes.{zeros}
 use Rattle.storing.proofs.load_words.Goals as goal
 

@@ -1,14 +1,9 @@
 -- `next_packet` meets its contract: what remains to be looked through has the same queue.
 -- Assumes nothing.
 use Prim.Native.Nat.{◌-◌}
-use mathlib.Core.Path.{◌≡◌, refl, sym, ◌∙◌}
-use native.Mathlib.Numerals.{add-one}
+use mathlib.Core.Path.{◌≡◌}
 use lib.ListN.{drop}
 use Rattle.live_rules.specs.State.{packets_at, queue}
-use Rattle.hierarchy.specs.Next.{next_of}
-use Rattle.storing.proofs.Packets.{next_here, next_later, next_none, next_word, worded_in}
-use native.Mathlib.Omega.{arith}
-use borrow.Author.Rules.{rules}
 use Rattle.storing.proofs.next_packet.Given as goal
 
 abbrev pub invariant-loop-i : goal.invariant-loop-i

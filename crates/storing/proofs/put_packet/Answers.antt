@@ -3,7 +3,6 @@
 use lib.ListN.{length-set}
 use Rattle.storing.proofs.Packets.{packets_joined}
 use native.Mathlib.Omega.{arith}
-use borrow.Author.Rules.{rules}
 use Rattle.storing.proofs.put_packet.Goals as goal
 
 pub bounds-state-m-2 : goal.bounds-state-m-2

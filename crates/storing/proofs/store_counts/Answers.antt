@@ -2,7 +2,6 @@
 -- Assumes nothing.
 use mathlib.Core.Path.{◌∙◌}
 use Rattle.live_rules.specs.State.{counts_stored}
-use borrow.Author.Rules.{rules}
 use Rattle.storing.proofs.store_counts.Goals as goal
 
 pub returns : goal.returns

@@ -3,7 +3,6 @@
 use mathlib.Core.Path.{refl}
 use lib.ListN.{length-set}
 use native.Mathlib.Omega.{arith}
-use borrow.Author.Rules.{rules}
 use Rattle.storing.proofs.store_header.Goals as goal
 
 pub bounds-state-1 : goal.bounds-state-1

@@ -2,7 +2,6 @@
 -- Assumes nothing.
 use mathlib.Core.Path.{◌∙◌}
 use Rattle.live_rules.specs.State.{tags_stored}
-use borrow.Author.Rules.{rules}
 use Rattle.storing.proofs.store_tags.Goals as goal
 
 pub returns : goal.returns

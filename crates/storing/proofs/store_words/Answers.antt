@@ -1,12 +1,10 @@
 -- `store_words` meets its contract: a row more at each turn.
 -- Assumes nothing.
-use Prim.Native.Nat.{◌-◌, ◌≤◌}
+use Prim.Native.Nat.{◌-◌}
 use mathlib.Core.Path.{◌≡◌, refl}
-use lib.ListN.{length, length-set}
-use Rattle.live_rules.specs.State.{rows_stored}
+use lib.ListN.{length-set}
 use Rattle.storing.proofs.Turns.{written_none, written_turn}
 use native.Mathlib.Omega.{arith}
-use borrow.Author.Rules.{rules}
 use Rattle.storing.proofs.store_words.Goals as goal
 
 pub loop-r-init : goal.loop-r-init

@@ -1,12 +1,9 @@
 -- `store_words` meets its contract: a row more at each turn.
 -- Assumes nothing.
 use Prim.Native.Nat.{◌-◌, ◌≤◌}
-use mathlib.Core.Path.{◌≡◌, refl}
-use lib.ListN.{length, length-set}
+use mathlib.Core.Path.{◌≡◌}
+use lib.ListN.{length}
 use Rattle.live_rules.specs.State.{rows_stored}
-use Rattle.storing.proofs.Turns.{written_none, written_turn}
-use native.Mathlib.Omega.{arith}
-use borrow.Author.Rules.{rules}
 use Rattle.storing.proofs.store_words.Given as goal
 
 abbrev pub invariant-loop-r : goal.invariant-loop-r

@@ -1,6 +1,5 @@
 -- `put_heading` meets its contract: the heading, its end.
 -- Assumes nothing.
-use borrow.Author.Rules.{rules}
 use Rattle.output.specs.Quoted.{bytes_of}
 use Rattle.output.proofs.Pages.{then}
 use Rattle.pcap.specs.Printed.{packet_heading}

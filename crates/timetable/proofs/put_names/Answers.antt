@@ -1,7 +1,6 @@
 -- `put_names` meets its contract: its parts one after the other.
 -- Assumes nothing.
 use mathlib.Core.Path.{ap, ◌∙◌}
-use borrow.Author.Rules.{rules}
 use Rattle.output.specs.Pages.{with_text}
 use Rattle.output.proofs.Pages.{then}
 use Rattle.timetable.proofs.Lines.{names_parts}

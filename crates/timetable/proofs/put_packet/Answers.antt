@@ -3,7 +3,6 @@
 use Prim.Native.Nat.{ℕ, ◌+◌}
 use mathlib.Core.Path.{ap, ◌∙◌}
 use native.Mathlib.Omega.{arith}
-use borrow.Author.Rules.{rules}
 use Rattle.input.specs.Lent.{events_of}
 use Rattle.output.specs.Pages.{with_text}
 use Rattle.output.proofs.Pages.{then}

@@ -1,16 +1,16 @@
 -- `put_packets` meets its contract. The loop's invariant: the lines of the packets that remain, put on the page as it is, are all of them put on
 -- the page as it was; the same of when the line is free; and that moves by no more than a second for each byte of a packet.
 -- Assumes nothing.
-use Prim.Native.Nat.{◌+◌, ◌*◌, ◌≤◌, ◌-◌, ◌^◌}
+use Prim.Native.Nat.{◌-◌}
 use mathlib.Core.Path.{◌≡◌, ◌∙◌}
 use mathlib.Core.List.{[]}
 use native.Mathlib.Omega.{arith}
-use lib.ListN.{length, drop, drop_of_length-le}
+use lib.ListN.{drop, drop_of_length-le}
 use borrow.Author.Rules.{rules}
 use Rattle.input.specs.Lent.{events_of}
 use Rattle.output.specs.Pages.{page_of, with_text}
 use Rattle.pcap.specs.Printed.{packet_lines}
-use Rattle.timetable.specs.Free.{free_through, most_free}
+use Rattle.timetable.specs.Free.{free_through}
 use Rattle.timetable.proofs.Lines.{lines_turn, free_turn}
 use Rattle.timetable.proofs.put_packets.Goals as goal
 

@@ -2,16 +2,12 @@
 -- the page as it was; the same of when the line is free; and that moves by no more than a second for each byte of a packet.
 -- Assumes nothing.
 use Prim.Native.Nat.{◌+◌, ◌*◌, ◌≤◌, ◌-◌, ◌^◌}
-use mathlib.Core.Path.{◌≡◌, ◌∙◌}
-use mathlib.Core.List.{[]}
-use native.Mathlib.Omega.{arith}
-use lib.ListN.{length, drop, drop_of_length-le}
-use borrow.Author.Rules.{rules}
+use mathlib.Core.Path.{◌≡◌}
+use lib.ListN.{length, drop}
 use Rattle.input.specs.Lent.{events_of}
 use Rattle.output.specs.Pages.{page_of, with_text}
 use Rattle.pcap.specs.Printed.{packet_lines}
 use Rattle.timetable.specs.Free.{free_through, most_free}
-use Rattle.timetable.proofs.Lines.{lines_turn, free_turn}
 use Rattle.timetable.proofs.put_packets.Given as goal
 
 abbrev pub invariant-loop-k : goal.invariant-loop-k

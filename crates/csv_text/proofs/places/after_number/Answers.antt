@@ -2,7 +2,6 @@
 -- Assumes nothing.
 use Rattle.forms.specs.Faults.{after_number, digit}
 use borrow.Author.Tests.{le-leb, lt-leb}
-use borrow.Author.Rules.{rules}
 use Rattle.csv_text.proofs.places.after_number.Goals as goal
 
 pub returns-then-byte-lt48 : goal.returns-then-byte-lt48

@@ -1,7 +1,6 @@
 -- `lines_after` meets its contract, arm by arm.
 -- Assumes nothing.
 use Rattle.forms.specs.Faults.{lines_after}
-use borrow.Author.Rules.{rules}
 use Rattle.csv_text.proofs.places.lines_after.Goals as goal
 
 pub returns-in-Heading : goal.returns-in-Heading

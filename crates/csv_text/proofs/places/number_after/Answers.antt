@@ -1,7 +1,6 @@
 -- `number_after` meets its contract, arm by arm.
 -- Assumes nothing.
 use Rattle.forms.specs.Faults.{number_after}
-use borrow.Author.Rules.{rules}
 use Rattle.csv_text.proofs.places.number_after.Goals as goal
 
 pub returns-in-Heading : goal.returns-in-Heading

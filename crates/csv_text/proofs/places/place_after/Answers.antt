@@ -1,7 +1,6 @@
 -- `place_after` meets its contract, arm by arm.
 -- Assumes nothing.
 use Rattle.forms.specs.Faults.{place_after}
-use borrow.Author.Rules.{rules}
 use Rattle.csv_text.proofs.places.place_after.Goals as goal
 
 pub returns-in-Heading : goal.returns-in-Heading

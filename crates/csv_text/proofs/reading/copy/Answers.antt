@@ -1,9 +1,9 @@
 -- `copy` meets its contract: the words so far are over the first of the slice.
 -- Assumes nothing.
-use Prim.Native.Nat.{◌≤◌, ◌<◌, ◌-◌}
+use Prim.Native.Nat.{◌<◌, ◌-◌}
 use mathlib.Core.Path.{◌≡◌, refl}
 use native.Mathlib.Omega.{arith}
-use lib.ListN.{length, take}
+use lib.ListN.{length}
 use lib.Seq.{take-length}
 use Rattle.rules.specs.Outcome.{over}
 use Rattle.csv_text.proofs.Turns.{copy_turn}

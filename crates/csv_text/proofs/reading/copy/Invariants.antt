@@ -1,13 +1,9 @@
 -- `copy` meets its contract: the words so far are over the first of the slice.
 -- Assumes nothing.
-use Prim.Native.Nat.{◌≤◌, ◌<◌, ◌-◌}
-use mathlib.Core.Path.{◌≡◌, refl}
-use native.Mathlib.Omega.{arith}
+use Prim.Native.Nat.{◌≤◌, ◌-◌}
+use mathlib.Core.Path.{◌≡◌}
 use lib.ListN.{length, take}
-use lib.Seq.{take-length}
 use Rattle.rules.specs.Outcome.{over}
-use Rattle.csv_text.proofs.Turns.{copy_turn}
-use borrow.Author.Rules.{rules}
 use Rattle.csv_text.proofs.reading.copy.Given as goal
 
 abbrev pub invariant-loop-i : goal.invariant-loop-i

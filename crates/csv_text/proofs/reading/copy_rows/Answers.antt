@@ -4,7 +4,6 @@ use mathlib.Core.Path.{sym}
 use lib.Seq.{length-take-le}
 use Rattle.forms.specs.Outcomes.{table_over}
 use Rattle.csv_text.specs.Kept.{first_rows}
-use borrow.Author.Rules.{rules}
 use Rattle.csv_text.proofs.reading.copy_rows.Goals as goal
 
 pub slice_bounds-copy-end : goal.slice_bounds-copy-end

@@ -3,7 +3,6 @@
 use borrow.Author.Tests.{lt-ltb, le-ltb}
 use Rattle.input.specs.Refusals.{given}
 use Rattle.forms.specs.Outcomes.{count_refused}
-use borrow.Author.Rules.{rules}
 use Rattle.csv_text.proofs.reading.count_refused.Goals as goal
 
 pub returns-then-rows-lt-LEAST_ROWS : goal.returns-then-rows-lt-LEAST_ROWS

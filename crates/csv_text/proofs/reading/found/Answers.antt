@@ -1,7 +1,6 @@
 -- `found` meets its contract.
 -- Assumes nothing.
 use Rattle.forms.specs.Outcomes.{rows_found}
-use borrow.Author.Rules.{rules}
 use Rattle.csv_text.proofs.reading.found.Goals as goal
 
 pub returns : goal.returns

@@ -7,7 +7,6 @@ use lib.Seq.{length-take-le}
 use Rattle.input.specs.declared.Refusal.{Refusal}
 use Rattle.input.specs.Lent.{table_of}
 use Rattle.csv_text.proofs.Cases.{too_long, fault_within, fault_is, fits_room, rows_faulty, rows_good, rows_fit, rows_short, rows_count}
-use borrow.Author.Rules.{rules}
 use Rattle.csv_text.proofs.reading.read_rows.Goals as goal
 
 pub returns-then-text-size : goal.returns-then-text-size

@@ -8,7 +8,6 @@ use Rattle.input.specs.Lent.{table_of}
 use Rattle.tables.specs.declared.Reading.{Reading}
 use Rattle.csv_text.specs.Kept.{first_rows}
 use Rattle.csv_text.proofs.Cases.{unfit_fault, unfit_count, unfit_short, unfit_own, few_rows, rows_right, own_refusal}
-use borrow.Author.Rules.{rules}
 use Rattle.csv_text.proofs.reading.unfit.Goals as goal
 
 pub returns-then-fault-ne0 : goal.returns-then-fault-ne0

@@ -1,7 +1,6 @@
 -- `fault_at` meets its contract, arm by arm.
 -- Assumes nothing.
 use Rattle.forms.specs.Faults.{fault_at}
-use borrow.Author.Rules.{rules}
 use Rattle.csv_text.proofs.scans.fault_at.Goals as goal
 
 pub returns-in-Heading : goal.returns-in-Heading

@@ -1,16 +1,11 @@
 -- `fill` meets its contract: the slices hold the rows of the bytes so far.
 -- Assumes nothing.
-use Prim.Native.Nat.{◌≤◌, ◌<◌, ◌-◌}
-use mathlib.Core.Path.{◌≡◌, refl, ap, ◌∙◌}
-use native.Mathlib.Omega.{arith}
-use lib.ListN.{length, take, length-take}
-use lib.Seq.{take-length}
-use Rattle.forms.specs.declared.Scan.{Scan}
+use Prim.Native.Nat.{◌≤◌, ◌-◌}
+use mathlib.Core.Path.{◌≡◌}
+use lib.ListN.{length, take}
 use Rattle.input.specs.Lent.{table_of}
-use Rattle.forms.specs.Faults.{read_text, with_bytes, table_in}
-use Rattle.csv_text.proofs.Turns.{lines_most, scan_turn, fill_start, fill_turn}
+use Rattle.forms.specs.Faults.{read_text}
 use Rattle.forms.specs.Outcomes.{table_over}
-use borrow.Author.Rules.{rules}
 use Rattle.csv_text.proofs.scans.fill.Given as goal
 
 abbrev pub invariant-loop-i : goal.invariant-loop-i

@@ -7,7 +7,6 @@ use native.Mathlib.Omega.{arith}
 use Rattle.forms.specs.declared.Scan.{Scan}
 use Rattle.forms.specs.Faults.{after}
 use Rattle.csv_text.proofs.Turns.{kept_none, kept_same, kept_row}
-use borrow.Author.Rules.{rules}
 use Rattle.csv_text.proofs.scans.keep.Goals as goal
 
 pub returns-then-scan-eq0 : goal.returns-then-scan-eq0

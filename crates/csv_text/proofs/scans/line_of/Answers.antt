@@ -2,7 +2,6 @@
 -- Assumes nothing.
 use Rattle.forms.specs.Faults.{line_of}
 use native.Mathlib.Omega.{arith}
-use borrow.Author.Rules.{rules}
 use Rattle.csv_text.proofs.scans.line_of.Goals as goal
 
 pub returns-then-lines-lt-MOST_LINE : goal.returns-then-lines-lt-MOST_LINE

@@ -2,7 +2,6 @@
 -- Assumes nothing.
 use Rattle.forms.specs.Faults.{scan_refused}
 use borrow.Author.Tests.{eq-eqb, ne_eqb}
-use borrow.Author.Rules.{rules}
 use Rattle.csv_text.proofs.scans.scan_refused.Goals as goal
 
 pub returns-then-number-eq0 : goal.returns-then-number-eq0

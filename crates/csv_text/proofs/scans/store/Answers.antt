@@ -2,7 +2,6 @@
 -- Assumes nothing.
 use mathlib.Core.Path.{sym}
 use lib.Seq.{set_out}
-use borrow.Author.Rules.{rules}
 use Rattle.csv_text.proofs.scans.store.Goals as goal
 
 pub returns-else-place-words : goal.returns-else-place-words

@@ -1,9 +1,9 @@
 -- `csv::writing::copy` meets its contract. The loop's invariant: the bytes passed are written over what was lent.
 -- Assumes nothing.
-use Prim.Native.Nat.{◌≤◌, ◌-◌}
+use Prim.Native.Nat.{◌-◌}
 use mathlib.Core.Path.{◌≡◌, refl}
 use native.Mathlib.Omega.{arith}
-use lib.ListN.{length, take, length-set}
+use lib.ListN.{take, length-set}
 use lib.Seq.{take_all}
 use borrow.Author.Rules.{rules}
 use Rattle.rules.specs.Outcome.{over}

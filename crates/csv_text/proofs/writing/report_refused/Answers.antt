@@ -8,7 +8,6 @@ use Rattle.input.specs.Refusals.{given}
 use Rattle.forms.specs.Outcomes.{count_refused, results_refused}
 use Rattle.tables.proofs.Firsts.{or_else_first, or_else_second}
 use Rattle.csv_text.proofs.Cases.{few_rows}
-use borrow.Author.Rules.{rules}
 use Rattle.csv_text.proofs.writing.report_refused.Goals as goal
 
 pub returns-then-counted-ne0 : goal.returns-then-counted-ne0

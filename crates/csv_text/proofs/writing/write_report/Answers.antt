@@ -2,7 +2,6 @@
 -- Assumes nothing.
 use mathlib.Core.Path.{sym}
 use native.Mathlib.Omega.{arith}
-use borrow.Author.Rules.{rules}
 use Rattle.csv_text.proofs.Written.{report_unfit, report_held, report_short, report_fine}
 use Rattle.csv_text.proofs.writing.write_report.Goals as goal
 

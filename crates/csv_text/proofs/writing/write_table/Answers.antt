@@ -2,7 +2,6 @@
 -- Assumes nothing.
 use mathlib.Core.Path.{refl, sym, ap, ◌∙◌}
 use native.Mathlib.Omega.{arith}
-use borrow.Author.Rules.{rules}
 use Rattle.input.specs.Classes.{Table}
 use Rattle.input.specs.Lent.{table_of}
 use Rattle.tables.specs.declared.Reading.{Reading}

@@ -3,8 +3,6 @@
 use Prim.Native.Nat.{◌-◌, ◌≤◌}
 use mathlib.Core.Path.{◌≡◌}
 use lib.ListN.{length}
-use native.Mathlib.Omega.{arith}
-use borrow.Author.Rules.{rules}
 use Rattle.drawing.proofs.lines.put_blanks.Given as goal
 
 abbrev pub invariant-loop-i : goal.invariant-loop-i

@@ -3,7 +3,6 @@
 use Prim.Native.Nat.{◌-◌, ◌≤◌}
 use mathlib.Core.Path.{◌≡◌}
 use lib.ListN.{length}
-use borrow.Author.Rules.{rules}
 use Rattle.drawing.proofs.lines.put_tree.Given as goal
 
 abbrev pub invariant-loop-drawn : goal.invariant-loop-drawn

@@ -1,8 +1,6 @@
 -- `next_above` is safe and ends: it takes no more steps than there are rows.
 -- Assumes nothing.
 use Prim.Native.Nat.{◌-◌, ◌≤◌}
-use native.Mathlib.Omega.{arith}
-use borrow.Author.Rules.{rules}
 use Rattle.drawing.proofs.order.next_above.Given as goal
 
 abbrev pub invariant-loop-step : goal.invariant-loop-step

@@ -1,8 +1,6 @@
 -- `next_child` is safe and ends: it passes the rows one by one.
 -- Assumes nothing.
 use Prim.Native.Nat.{◌-◌, ◌≤◌, max}
-use native.Mathlib.Omega.{arith}
-use borrow.Author.Rules.{rules}
 use Rattle.drawing.proofs.order.next_child.Given as goal
 
 abbrev pub invariant-loop-r : goal.invariant-loop-r

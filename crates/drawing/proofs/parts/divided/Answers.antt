@@ -1,13 +1,12 @@
 -- `divided` meets its contract: divided one time after another.
 -- Assumes nothing.
 use native.Mathlib.Nat.{div-one}
-use Prim.Native.Nat.{ℕ, ◌/◌, ◌-◌, ◌^◌, ◌<◌, ◌≤◌}
+use Prim.Native.Nat.{ℕ, ◌/◌, ◌-◌, ◌^◌}
 use mathlib.Core.Path.{◌≡◌, sym, ◌∙◌, ap}
 use Rattle.input.specs.Limits.{whole}
-use Rattle.drawing.specs.Wide.{split, value}
+use Rattle.drawing.specs.Wide.{value}
 use Rattle.drawing.proofs.Numbers.{divided_once}
 use native.Mathlib.Omega.{arith}
-use borrow.Author.Rules.{rules}
 use Rattle.drawing.proofs.parts.divided.Goals as goal
 
 pub loop-step-init : goal.loop-step-init

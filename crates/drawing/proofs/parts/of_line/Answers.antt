@@ -5,7 +5,6 @@ use mathlib.Core.Path.{◌≡◌, ◌∙◌, ap}
 use Rattle.input.specs.Limits.{whole, most_depth}
 use Rattle.drawing.specs.Parts.{hundredths, product, steps, of_line}
 use Rattle.drawing.proofs.Numbers.{line_most, low_alone}
-use borrow.Author.Rules.{rules}
 use Rattle.drawing.proofs.parts.of_line.Goals as goal
 
 pub returns : goal.returns

@@ -2,8 +2,6 @@
 -- Assumes nothing.
 use mathlib.Core.Path.{refl}
 use Rattle.drawing.specs.Parts.{of_parent}
-use native.Mathlib.Omega.{arith}
-use borrow.Author.Rules.{rules}
 use Rattle.drawing.proofs.parts.of_parent.Goals as goal
 
 pub returns : goal.returns

@@ -1,14 +1,11 @@
 -- `product` meets its contract: what is multiplied so far and what is left give all of it.
 -- Assumes nothing.
-use Prim.Native.Nat.{ℕ, ◌*◌, ◌-◌, ◌^◌, ◌<◌, ◌≤◌}
-use mathlib.Core.Path.{◌≡◌, ap}
+use Prim.Native.Nat.{◌*◌, ◌-◌, ◌^◌, ◌<◌, ◌≤◌}
+use mathlib.Core.Path.{◌≡◌}
 use Rattle.input.specs.Limits.{whole}
 use Rattle.input.specs.Classes.{Tree}
-use Rattle.drawing.specs.Parts.{hundredths, part, product}
+use Rattle.drawing.specs.Parts.{hundredths, product}
 use Rattle.drawing.specs.Wide.{split, value}
-use Rattle.drawing.proofs.Numbers.{high_fits, grows, one_more, at_last}
-use native.Mathlib.Omega.{arith}
-use borrow.Author.Rules.{rules}
 use Rattle.drawing.proofs.parts.product.Given as goal
 
 abbrev pub invariant-loop-step : goal.invariant-loop-step

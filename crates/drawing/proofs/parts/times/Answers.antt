@@ -2,7 +2,6 @@
 -- Assumes nothing.
 use Rattle.drawing.proofs.Numbers.{product_low, product_high}
 use native.Mathlib.Omega.{arith}
-use borrow.Author.Rules.{rules}
 use Rattle.drawing.proofs.parts.times.Goals as goal
 
 pub overflow_mul-low : goal.overflow_mul-low

@@ -1,7 +1,6 @@
 -- `holding::packets::first` meets its contract: by the count.
 -- Assumes nothing.
 use borrow.Author.Tests.{ne_eqb}
-use borrow.Author.Rules.{rules}
 use Rattle.holding.proofs.packets.first.Goals as goal
 
 pub returns-then-count-eq0 : goal.returns-then-count-eq0

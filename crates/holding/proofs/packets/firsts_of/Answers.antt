@@ -1,10 +1,9 @@
 -- `holding::packets::firsts_of` meets its contract: the packets passed are told.
 -- Assumes nothing.
-use Prim.Native.Nat.{◌-◌, ◌≤◌}
+use Prim.Native.Nat.{◌-◌}
 use mathlib.Core.Path.{◌≡◌}
-use Rattle.holding.proofs.Queues.{Tally, tally_none, tally_more}
+use Rattle.holding.proofs.Queues.{tally_none, tally_more}
 use native.Mathlib.Omega.{arith}
-use borrow.Author.Rules.{rules}
 use Rattle.holding.proofs.packets.firsts_of.Goals as goal
 
 pub loop-i-init : goal.loop-i-init

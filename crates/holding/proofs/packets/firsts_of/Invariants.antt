@@ -1,10 +1,7 @@
 -- `holding::packets::firsts_of` meets its contract: the packets passed are told.
 -- Assumes nothing.
 use Prim.Native.Nat.{◌-◌, ◌≤◌}
-use mathlib.Core.Path.{◌≡◌}
-use Rattle.holding.proofs.Queues.{Tally, tally_none, tally_more}
-use native.Mathlib.Omega.{arith}
-use borrow.Author.Rules.{rules}
+use Rattle.holding.proofs.Queues.{Tally}
 use Rattle.holding.proofs.packets.firsts_of.Given as goal
 
 abbrev pub invariant-loop-i : goal.invariant-loop-i

@@ -1,12 +1,10 @@
 -- `holding::packets::fits` meets its contract: each test that fails decides, and the last one decides else.
 -- Assumes nothing.
 use mathlib.Core.Bool.{false}
-use lib.ListN.{get_or}
-use borrow.Author.Tests.{lt-ltb, le-ltb, le-leb, lt-leb, not-true, not-false}
+use borrow.Author.Tests.{lt-ltb, le-ltb, le-leb, lt-leb}
 use Rattle.input.specs.Limits.{least_bytes, most_bytes}
 use Rattle.holding.specs.Packets.{fits}
 use native.Mathlib.Omega.{arith}
-use borrow.Author.Rules.{rules}
 use Rattle.holding.proofs.packets.fits.Goals as goal
 
 pub returns-then-n-k : goal.returns-then-n-k

@@ -1,16 +1,14 @@
 -- `holding::packets::packets_sound` meets its contract: the packets passed fit, and the least name that the next may have is kept.
 -- Assumes nothing.
-use Prim.Native.Nat.{◌-◌, ◌≤◌}
+use Prim.Native.Nat.{◌-◌}
 use mathlib.Core.Path.{◌≡◌, refl, sym, ◌∙◌}
 use mathlib.Core.Bool.{true}
 use native.Mathlib.Numerals.{add-one}
-use borrow.Author.Tests.{not-true, not-false}
 use Rattle.live_rules.specs.Soundness.{all}
 use Rattle.holding.specs.Packets.{fits_at, least_at}
 use Rattle.live_rules.proofs.Alls.{all_fails}
 use Rattle.holding.proofs.Fitting.{packets_fit, fits_turn, fits_bounds}
 use native.Mathlib.Omega.{arith}
-use borrow.Author.Rules.{rules}
 use Rattle.holding.proofs.packets.packets_sound.Goals as goal
 
 pub loop-i-init : goal.loop-i-init

@@ -1,16 +1,10 @@
 -- `holding::packets::packets_sound` meets its contract: the packets passed fit, and the least name that the next may have is kept.
 -- Assumes nothing.
 use Prim.Native.Nat.{◌-◌, ◌≤◌}
-use mathlib.Core.Path.{◌≡◌, refl, sym, ◌∙◌}
+use mathlib.Core.Path.{◌≡◌}
 use mathlib.Core.Bool.{true}
-use native.Mathlib.Numerals.{add-one}
-use borrow.Author.Tests.{not-true, not-false}
 use Rattle.live_rules.specs.Soundness.{all}
 use Rattle.holding.specs.Packets.{fits_at, least_at}
-use Rattle.live_rules.proofs.Alls.{all_fails}
-use Rattle.holding.proofs.Fitting.{packets_fit, fits_turn, fits_bounds}
-use native.Mathlib.Omega.{arith}
-use borrow.Author.Rules.{rules}
 use Rattle.holding.proofs.packets.packets_sound.Given as goal
 
 abbrev pub invariant-loop-i : goal.invariant-loop-i

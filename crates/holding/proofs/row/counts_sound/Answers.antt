@@ -5,7 +5,6 @@ use borrow.Author.Tests.{le-leb, lt-leb}
 use Rattle.input.specs.Limits.{most_bytes}
 use Rattle.holding.specs.Row.{counts_test}
 use native.Mathlib.Omega.{arith}
-use borrow.Author.Rules.{rules}
 use Rattle.holding.proofs.row.counts_sound.Goals as goal
 
 pub returns-then-left-bytes : goal.returns-then-left-bytes

@@ -3,7 +3,6 @@
 use borrow.Author.Tests.{eq-eqb, ne_eqb}
 use Rattle.holding.specs.Row.{inner_test}
 use native.Mathlib.Omega.{arith}
-use borrow.Author.Rules.{rules}
 use Rattle.holding.proofs.row.inner_sound.Goals as goal
 
 pub returns-then-sender : goal.returns-then-sender

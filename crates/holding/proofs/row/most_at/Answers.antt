@@ -3,7 +3,6 @@
 use borrow.Author.Tests.{eq-eqb, ne_eqb}
 use Rattle.holding.specs.Row.{most_at}
 use native.Mathlib.Omega.{arith}
-use borrow.Author.Rules.{rules}
 use Rattle.holding.proofs.row.most_at.Goals as goal
 
 pub returns-then-head-eq0 : goal.returns-then-head-eq0

@@ -3,7 +3,6 @@
 use borrow.Author.Tests.{eq-eqb, ne_eqb, lt-ltb, le-ltb}
 use Rattle.holding.specs.Row.{passed_on}
 use native.Mathlib.Omega.{arith}
-use borrow.Author.Rules.{rules}
 use Rattle.holding.proofs.row.passed_on.Goals as goal
 
 pub returns-then-t-eq0 : goal.returns-then-t-eq0

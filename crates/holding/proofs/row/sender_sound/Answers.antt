@@ -1,9 +1,8 @@
 -- `holding::row::sender_sound` meets its contract: each test that fails decides.
 -- Assumes nothing.
-use borrow.Author.Tests.{eq-eqb, ne_eqb, not-true, not-false}
+use borrow.Author.Tests.{eq-eqb, ne_eqb}
 use Rattle.holding.specs.Row.{sender_test}
 use native.Mathlib.Omega.{arith}
-use borrow.Author.Rules.{rules}
 use Rattle.holding.proofs.row.sender_sound.Goals as goal
 
 pub returns-then-not-sender : goal.returns-then-not-sender

@@ -3,7 +3,6 @@
 use borrow.Author.Tests.{eq-eqb, ne_eqb, le-leb, lt-leb}
 use Rattle.holding.specs.Row.{sizes_test}
 use native.Mathlib.Omega.{arith}
-use borrow.Author.Rules.{rules}
 use Rattle.holding.proofs.row.sizes_sound.Goals as goal
 
 pub returns-then-most_at-time : goal.returns-then-most_at-time

@@ -8,7 +8,6 @@ use Rattle.input.specs.Shares.{charge}
 use Rattle.holding.specs.Row.{tags_test}
 use Rattle.holding.proofs.Tests.{neither, between}
 use native.Mathlib.Omega.{arith}
-use borrow.Author.Rules.{rules}
 use Rattle.holding.proofs.row.tags_sound.Goals as goal
 
 pub returns-then-start-ne0 : goal.returns-then-start-ne0

@@ -1,14 +1,12 @@
 -- `holding::rows::matches_of` meets its contract: the rows passed have left their marks.
 -- Assumes nothing.
-use Prim.Native.Nat.{◌-◌, ◌≤◌}
+use Prim.Native.Nat.{◌-◌}
 use mathlib.Core.Path.{◌≡◌, ◌∙◌}
 use mathlib.Core.Bool.{Bool, false}
-use lib.ListN.{length, length-set, length-replicate}
+use lib.ListN.{length-set, length-replicate}
 use Rattle.input.specs.Limits.{most_rows}
-use Rattle.holding.specs.Rows.{Matches}
 use Rattle.holding.proofs.Passing.{matches_none, matches_more}
 use native.Mathlib.Omega.{arith}
-use borrow.Author.Rules.{rules}
 use Rattle.holding.proofs.rows.matches_of.Goals as goal
 
 pub loop-t-init : goal.loop-t-init

@@ -1,14 +1,10 @@
 -- `holding::rows::matches_of` meets its contract: the rows passed have left their marks.
 -- Assumes nothing.
 use Prim.Native.Nat.{◌-◌, ◌≤◌}
-use mathlib.Core.Path.{◌≡◌, ◌∙◌}
-use mathlib.Core.Bool.{Bool, false}
-use lib.ListN.{length, length-set, length-replicate}
+use mathlib.Core.Path.{◌≡◌}
+use lib.ListN.{length}
 use Rattle.input.specs.Limits.{most_rows}
 use Rattle.holding.specs.Rows.{Matches}
-use Rattle.holding.proofs.Passing.{matches_none, matches_more}
-use native.Mathlib.Omega.{arith}
-use borrow.Author.Rules.{rules}
 use Rattle.holding.proofs.rows.matches_of.Given as goal
 
 abbrev pub invariant-loop-t : goal.invariant-loop-t

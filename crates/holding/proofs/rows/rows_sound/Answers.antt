@@ -1,8 +1,6 @@
 -- `holding::rows::rows_sound` meets its contract: the first part of the test that fails decides.
 -- Assumes nothing.
-use borrow.Author.Tests.{not-true, not-false}
 use Rattle.holding.proofs.Sound.{rows_so}
-use borrow.Author.Rules.{rules}
 use Rattle.holding.proofs.rows.rows_sound.Goals as goal
 
 pub returns-then-not-senders_sound : goal.returns-then-not-senders_sound

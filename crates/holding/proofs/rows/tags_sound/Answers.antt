@@ -1,14 +1,12 @@
 -- `holding::rows::tags_sound` meets its contract: the rows passed are sound.
 -- Assumes nothing.
-use Prim.Native.Nat.{◌-◌, ◌≤◌}
+use Prim.Native.Nat.{◌-◌}
 use mathlib.Core.Path.{◌≡◌, refl, sym, ◌∙◌}
 use mathlib.Core.Bool.{true, false}
-use borrow.Author.Tests.{not-true, not-false}
 use Rattle.live_rules.specs.Soundness.{all}
 use Rattle.live_rules.proofs.Alls.{all_fails, all_more}
 use Rattle.holding.specs.Rows.{tags_tested}
 use native.Mathlib.Omega.{arith}
-use borrow.Author.Rules.{rules}
 use Rattle.holding.proofs.rows.tags_sound.Goals as goal
 
 pub loop-r-init : goal.loop-r-init

@@ -1,7 +1,6 @@
 -- `arrived_after` meets its contract, by its test.
 -- Assumes nothing.
 use native.Mathlib.Omega.{arith}
-use borrow.Author.Rules.{rules}
 use Rattle.listing.proofs.next.arrived_after.Goals as goal
 
 pub returns-then-next : goal.returns-then-next

@@ -1,7 +1,6 @@
 -- `due_after` meets its contract, by its tests.
 -- Assumes nothing.
 use native.Mathlib.Omega.{arith}
-use borrow.Author.Rules.{rules}
 use Rattle.listing.proofs.next.due_after.Goals as goal
 
 pub returns-then-next : goal.returns-then-next

@@ -1,8 +1,6 @@
 -- `finishes_next` meets its contract: each answer goes by the tests on its way.
 -- Assumes nothing.
 use borrow.Author.Tests.{eq-eqb, ne_eqb}
-use native.Mathlib.Omega.{arith}
-use borrow.Author.Rules.{rules}
 use Rattle.listing.proofs.next.finishes_next.Goals as goal
 
 pub returns-then-idle : goal.returns-then-idle

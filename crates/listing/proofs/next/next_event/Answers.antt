@@ -1,7 +1,5 @@
 -- `next_event` meets its contract: the finish of what is on the line, or the next packet's arrival.
 -- Assumes nothing.
-use native.Mathlib.Omega.{arith}
-use borrow.Author.Rules.{rules}
 use Rattle.listing.proofs.Coming.{finish_next, arrival_next}
 use Rattle.listing.proofs.next.next_event.Goals as goal
 

@@ -2,8 +2,6 @@
 -- Assumes nothing.
 use borrow.Author.Tests.{eq-eqb, ne_eqb}
 use Rattle.pcap.specs.Lists.{packet_length}
-use native.Mathlib.Omega.{arith}
-use borrow.Author.Rules.{rules}
 use Rattle.listing.proofs.next.packet_length.Goals as goal
 
 pub returns-then-class-eq0 : goal.returns-then-class-eq0

@@ -2,8 +2,6 @@
 -- Assumes nothing.
 use Rattle.pcap.specs.Lists.{sending}
 use Rattle.input.proofs.Charges.{rounded_most}
-use native.Mathlib.Omega.{arith}
-use borrow.Author.Rules.{rules}
 use Rattle.listing.proofs.next.sending.Goals as goal
 
 pub returns : goal.returns

@@ -1,7 +1,6 @@
 -- `store_fresh` meets its contract: the header, the tree, and zeros.
 -- Assumes nothing.
 use Rattle.live_box.proofs.FreshOutcome.{all_written}
-use borrow.Author.Rules.{rules}
 use Rattle.live_box.proofs.making.store_fresh.Goals as goal
 
 pub returns : goal.returns

@@ -4,7 +4,6 @@ use mathlib.Core.Path.{refl, ◌∙◌}
 use Rattle.input.specs.Classes.{zeros}
 use Rattle.rules.specs.Box.{fresh}
 use Rattle.live_rules.specs.State.{fresh_live}
-use borrow.Author.Rules.{rules}
 use Rattle.live_box.proofs.making.store_zeros.Goals as goal
 
 pub returns : goal.returns

@@ -1,8 +1,6 @@
 -- `live_box::meeting::finish` meets its contract: what the check refuses is what the definition refuses.
 -- Assumes nothing.
 use mathlib.Core.Path.{◌≡◌, refl, ap, sym, ◌∙◌}
-use native.Mathlib.Omega.{arith}
-use borrow.Author.Rules.{rules}
 use Rattle.input.specs.declared.Event.TheVariants.{Finish}
 use Rattle.input.specs.Refusals.{meeting_refused}
 use Rattle.rules.specs.Refused.{idle}

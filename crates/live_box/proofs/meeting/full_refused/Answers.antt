@@ -1,8 +1,7 @@
 -- `live_box::meeting::full_refused` meets its contract: 21 before 22.
 -- Assumes nothing.
-use mathlib.Core.Path.{refl, sym, ◌∙◌, ap₂}
+use mathlib.Core.Path.{sym, ◌∙◌, ap₂}
 use native.Mathlib.Omega.{arith}
-use borrow.Author.Rules.{rules}
 use Rattle.input.specs.Refusals.{or_else, first}
 use Rattle.tables.proofs.Firsts.{given_last}
 use Rattle.live_rules.specs.Taking.{full_refused}

@@ -11,7 +11,6 @@ use Rattle.live_rules.specs.Soundness.{sound}
 use Rattle.live_laws.proofs.Calls.{holds_in}
 use Rattle.state.specs.Opened.{Opened}
 use Rattle.live_box.proofs.ReportOutcome.{short, short_left, unsound_left, written_left, report_room, lags_room, state_room, tellable}
-use borrow.Author.Rules.{rules}
 use Rattle.live_box.proofs.telling.report.Goals as goal
 
 pub returns-then-too_short : goal.returns-then-too_short

@@ -3,7 +3,6 @@
 use native.Mathlib.Omega.{arith}
 use Rattle.live_rules.specs.State.{box_of}
 use Rattle.live_box.proofs.ReportOutcome.{shown, counts_are, shares_are, written}
-use borrow.Author.Rules.{rules}
 use Rattle.live_box.proofs.telling.tell.Goals as goal
 
 pub write_report-requires : goal.write_report-requires

@@ -2,7 +2,6 @@
 -- Assumes nothing.
 use mathlib.Core.Path.{refl}
 use borrow.Author.Tests.{lt-ltb, le-ltb}
-use borrow.Author.Rules.{rules}
 use Rattle.live_box.proofs.telling.too_short.Goals as goal
 
 pub returns-then-report : goal.returns-then-report

@@ -1,7 +1,6 @@
 -- `records::fields::microseconds` meets its contract: what a second and its fraction come to is below 2^53.
 -- Assumes nothing.
 use native.Mathlib.Omega.{arith}
-use borrow.Author.Rules.{rules}
 use Rattle.pcap.specs.Records.{microseconds}
 use Rattle.records.proofs.fields.microseconds.Goals as goal
 

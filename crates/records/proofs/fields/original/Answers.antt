@@ -1,7 +1,6 @@
 -- `records::fields::original` meets its contract.
 -- Assumes nothing.
 use mathlib.Core.Path.{◌∙◌}
-use borrow.Author.Rules.{rules}
 use Rattle.records.proofs.Laid.{by_layout}
 use Rattle.records.proofs.fields.original.Goals as goal
 

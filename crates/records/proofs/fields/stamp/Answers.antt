@@ -1,7 +1,6 @@
 -- `records::fields::stamp` meets its contract.
 -- Assumes nothing.
 use mathlib.Core.Path.{refl, ◌∙◌, ap₂}
-use borrow.Author.Rules.{rules}
 use Rattle.pcap.specs.Records.{microseconds, stamp_at}
 use Rattle.records.proofs.Laid.{by_layout, first_by_layout}
 use Rattle.records.proofs.fields.stamp.Goals as goal

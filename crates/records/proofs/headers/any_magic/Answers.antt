@@ -1,6 +1,5 @@
 -- `records::headers::any_magic` meets its contract: in one byte order or in the other.
 -- Assumes nothing.
-use borrow.Author.Rules.{rules}
 use Rattle.records.proofs.headers.any_magic.Goals as goal
 
 pub returns-then-magic : goal.returns-then-magic

@@ -6,7 +6,6 @@ use mathlib.Core.Bool.{not, ◌||◌}
 use mathlib.Core.List.{List, [], ◌∷◌}
 use lib.Dec.{eqb}
 use lib.ListN.{length}
-use borrow.Author.Rules.{rules}
 use borrow.Author.Tests.{eq-eqb, ne_eqb, lt-ltb, le-ltb}
 use Rattle.input.specs.Refusals.{nothing, given, or_else, first}
 use Rattle.pcap.specs.Headers.{header_bytes, major_version, minor_version, raw_ip, word_at, half_at}

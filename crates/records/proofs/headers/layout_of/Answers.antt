@@ -1,6 +1,5 @@
 -- `records::headers::layout_of` meets its contract.
 -- Assumes nothing.
-use borrow.Author.Rules.{rules}
 use Rattle.pcap.specs.Headers.{layout_of}
 use Rattle.records.proofs.headers.layout_of.Goals as goal
 

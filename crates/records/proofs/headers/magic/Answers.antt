@@ -1,6 +1,5 @@
 -- `records::headers::magic` meets its contract: one magic number or the other.
 -- Assumes nothing.
-use borrow.Author.Rules.{rules}
 use borrow.Author.Tests.{eq-eqb, ne_eqb}
 use Rattle.pcap.specs.Headers.{micro_magic, magic}
 use Rattle.records.proofs.headers.magic.Goals as goal

@@ -1,7 +1,6 @@
 -- `records::numbers::half` meets its contract: the two bytes are joined in the one order or in the other, below two that are 0.
 -- Assumes nothing.
 use native.Mathlib.Omega.{arith}
-use borrow.Author.Rules.{rules}
 use Rattle.octets.specs.Octets.{number_of}
 use Rattle.pcap.specs.Headers.{half_at}
 use Rattle.records.proofs.numbers.half.Goals as goal

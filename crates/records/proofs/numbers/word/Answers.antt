@@ -1,6 +1,5 @@
 -- `records::numbers::word` meets its contract: the four bytes are joined in the one order or in the other.
 -- Assumes nothing.
-use borrow.Author.Rules.{rules}
 use Rattle.pcap.specs.Headers.{word_at}
 use Rattle.records.proofs.numbers.word.Goals as goal
 

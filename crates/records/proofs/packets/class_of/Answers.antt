@@ -1,6 +1,5 @@
 -- `records::packets::class_of` meets its contract: the code point is in the six high bits of the packet's second byte.
 -- Assumes nothing.
-use borrow.Author.Rules.{rules}
 use Rattle.pcap.specs.Records.{code_point}
 use Rattle.records.proofs.packets.class_of.Goals as goal
 

@@ -2,7 +2,6 @@
 -- Assumes nothing.
 use lib.ListN.{length, get_or}
 use Prim.Native.Nat.{◌/◌}
-use borrow.Author.Rules.{rules}
 use borrow.Author.Tests.{eq-eqb, ne_eqb, lt-ltb, le-ltb}
 use Rattle.pcap.specs.Records.{least_header, ip_version, header_words}
 use Rattle.pcap.specs.Faults.{not_ipv4}

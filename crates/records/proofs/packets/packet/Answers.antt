@@ -1,6 +1,5 @@
 -- `records::packets::packet` meets its contract: the capture is cut off in the packet, or it is whole.
 -- Assumes nothing.
-use borrow.Author.Rules.{rules}
 use Rattle.records.proofs.Laid.{packet_cut, packet_there}
 use Rattle.records.proofs.packets.packet.Goals as goal
 

@@ -1,15 +1,10 @@
 -- `records::reading::offset_of` meets its contract. The loop's invariant: it is at the record that comes after as many as it passed.
 -- Assumes nothing.
-use Prim.Native.Nat.{◌+◌, ◌-◌, ◌≤◌, ◌<◌, ◌^◌}
-use mathlib.Core.Path.{◌≡◌, refl, ◌∙◌, ap}
-use native.Mathlib.Numerals.{add-one}
-use native.Mathlib.Omega.{arith}
+use Prim.Native.Nat.{◌-◌, ◌≤◌, ◌<◌, ◌^◌}
+use mathlib.Core.Path.{◌≡◌}
 use lib.ListN.{length}
-use borrow.Author.Rules.{rules}
 use Rattle.pcap.specs.Headers.{layout_of}
 use Rattle.pcap.specs.Records.{offset}
-use Rattle.records.proofs.Passing.{offset_least}
-use Rattle.records.proofs.Turns.{goes_on}
 use Rattle.records.proofs.reading.offset_of.Given as goal
 
 abbrev pub invariant-loop-passed : goal.invariant-loop-passed

@@ -5,12 +5,11 @@ use mathlib.Core.Path.{◌≡◌, refl, ◌∙◌, ap}
 use mathlib.Core.List.{List}
 use native.Mathlib.Omega.{arith}
 use lib.ListN.{length, length-set}
-use borrow.Author.Rules.{rules}
 use Rattle.pcap.specs.Headers.{record_bytes}
 use Rattle.pcap.specs.Records.{offset, included_at, packet_at}
 use Rattle.pcap.specs.Lists.{arrivals_with}
 use Rattle.records.proofs.Passing.{Whole, counted_whole}
-use Rattle.records.proofs.Turns.{begins_next, whole_at, two_bytes, ReadTo, read_none, read_more, read_all}
+use Rattle.records.proofs.Turns.{begins_next, whole_at, two_bytes, read_none, read_more, read_all}
 use Rattle.records.proofs.reading.read.Goals as goal
 
 -- ── in a turn ──

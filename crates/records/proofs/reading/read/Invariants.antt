@@ -1,16 +1,11 @@
 -- `records::reading::read` meets its contract. The loop's invariant: the records passed are read, and where the next one begins.
 -- Assumes nothing.
-use Prim.Native.Nat.{ℕ, ◌+◌, ◌-◌, ◌≤◌, ◌<◌}
-use mathlib.Core.Path.{◌≡◌, refl, ◌∙◌, ap}
-use mathlib.Core.List.{List}
-use native.Mathlib.Omega.{arith}
-use lib.ListN.{length, length-set}
-use borrow.Author.Rules.{rules}
-use Rattle.pcap.specs.Headers.{record_bytes}
-use Rattle.pcap.specs.Records.{offset, included_at, packet_at}
+use Prim.Native.Nat.{◌-◌, ◌≤◌}
+use mathlib.Core.Path.{◌≡◌}
+use lib.ListN.{length}
+use Rattle.pcap.specs.Records.{offset}
 use Rattle.pcap.specs.Lists.{arrivals_with}
-use Rattle.records.proofs.Passing.{Whole, counted_whole}
-use Rattle.records.proofs.Turns.{begins_next, whole_at, two_bytes, ReadTo, read_none, read_more, read_all}
+use Rattle.records.proofs.Turns.{ReadTo}
 use Rattle.records.proofs.reading.read.Given as goal
 
 abbrev pub invariant-loop-k : goal.invariant-loop-k

@@ -1,7 +1,6 @@
 -- `records::reading::read_record` meets its contract: one store to each slice.
 -- Assumes nothing.
 use mathlib.Core.Path.{refl}
-use borrow.Author.Rules.{rules}
 use Rattle.records.proofs.reading.read_record.Goals as goal
 
 pub class_of-requires : goal.class_of-requires

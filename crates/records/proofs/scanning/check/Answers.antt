@@ -3,7 +3,6 @@
 use Prim.Native.Nat.{ℕ}
 use mathlib.Core.Path.{◌≡◌, sym, ◌∙◌, ap}
 use mathlib.Core.List.{List}
-use borrow.Author.Rules.{rules}
 use Rattle.pcap.specs.Faults.{header_refused}
 use Rattle.records.specs.Scans.{scan_of, scanned}
 use Rattle.records.proofs.Answering.{scan_stops, headed, by_header, by_records}

@@ -6,7 +6,6 @@ use mathlib.Core.List.{List}
 use native.Mathlib.Numerals.{add-one}
 use native.Mathlib.Omega.{arith}
 use lib.ListN.{length}
-use borrow.Author.Rules.{rules}
 use Rattle.pcap.specs.declared.Layout.{Layout}
 use Rattle.pcap.specs.Records.{offset}
 use Rattle.records.specs.Scans.{stamp_before, scan_of, Next}

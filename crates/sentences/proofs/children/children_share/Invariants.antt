@@ -1,10 +1,7 @@
 -- `children_share` meets its contract: the sum so far is that of the rows passed, and has room for the shares of all rows that are held.
 -- Assumes nothing.
 use Prim.Native.Nat.{suc, ◌≤◌, ◌*◌, ◌-◌}
-use mathlib.Core.Path.{◌≡◌, refl}
-use native.Mathlib.Numerals.{add-one}
-use native.Mathlib.Omega.{arith}
-use borrow.Author.Rules.{rules}
+use mathlib.Core.Path.{◌≡◌}
 use Rattle.input.specs.Limits.{most_rows}
 use Rattle.sentences.specs.Named.{shares_under}
 use Rattle.sentences.proofs.children.children_share.Given as goal

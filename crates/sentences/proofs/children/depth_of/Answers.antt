@@ -1,9 +1,7 @@
 -- `depth_of` is safe: it takes no more steps than there are rows, and each is a row.
 -- Assumes nothing.
-use Prim.Native.Nat.{suc, ◌<◌, ◌≤◌, ◌-◌}
+use Prim.Native.Nat.{◌-◌}
 use native.Mathlib.Omega.{arith}
-use Rattle.input.specs.Limits.{most_rows}
-use borrow.Author.Rules.{rules}
 use Rattle.sentences.proofs.children.depth_of.Goals as goal
 
 pub loop-depth-preserved : goal.loop-depth-preserved

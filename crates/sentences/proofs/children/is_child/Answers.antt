@@ -3,7 +3,6 @@
 use borrow.Author.Tests.{lt-ltb, le-ltb}
 use Rattle.sentences.specs.Named.{child_of}
 use mathlib.Core.Path.{refl}
-use borrow.Author.Rules.{rules}
 use Rattle.sentences.proofs.children.is_child.Goals as goal
 
 pub returns-then-row-child : goal.returns-then-row-child

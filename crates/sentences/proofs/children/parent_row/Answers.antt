@@ -5,7 +5,6 @@ use Rattle.sentences.proofs.Rows.{length_take_most}
 use borrow.Author.Tests.{lt-ltb, le-ltb}
 use Rattle.sentences.specs.Named.{parent_row}
 use native.Mathlib.Omega.{arith}
-use borrow.Author.Rules.{rules}
 use Rattle.sentences.proofs.children.parent_row.Goals as goal
 
 pub slice_bounds-row_of-end : goal.slice_bounds-row_of-end

@@ -4,7 +4,6 @@ use Prim.Native.Nat.{suc, ◌≤◌, ◌-◌}
 use mathlib.Core.Path.{◌≡◌}
 use lib.ListN.{length}
 use Rattle.input.specs.Limits.{most_rows}
-use borrow.Author.Rules.{rules}
 use Rattle.sentences.proofs.children.put_children.Given as goal
 
 abbrev pub invariant-loop-child : goal.invariant-loop-child

@@ -1,7 +1,6 @@
 -- `share_under` meets its contract, by its test.
 -- Assumes nothing.
 use native.Mathlib.Omega.{arith}
-use borrow.Author.Rules.{rules}
 use Rattle.sentences.proofs.children.share_under.Goals as goal
 
 pub returns-then-is_child : goal.returns-then-is_child

@@ -1,7 +1,6 @@
 -- `counted` meets its contract, arm by arm.
 -- Assumes nothing.
 use Rattle.sentences.specs.Named.{counted}
-use borrow.Author.Rules.{rules}
 use Rattle.sentences.proofs.faults.counted.Goals as goal
 
 pub returns-in-Heading : goal.returns-in-Heading

@@ -1,7 +1,6 @@
 -- `faulty` meets its contract, arm by arm.
 -- Assumes nothing.
 use Rattle.sentences.specs.Named.{faulty}
-use borrow.Author.Rules.{rules}
 use Rattle.sentences.proofs.faults.faulty.Goals as goal
 
 pub returns-in-Heading : goal.returns-in-Heading

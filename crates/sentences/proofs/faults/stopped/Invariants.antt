@@ -1,13 +1,9 @@
 -- `stopped` meets its contract: the scan is that of the bytes before the fault.
 -- Assumes nothing.
 use Prim.Native.Nat.{◌≤◌, ◌-◌}
-use mathlib.Core.Path.{◌≡◌, ap, ◌∙◌}
-use native.Mathlib.Omega.{arith}
-use lib.ListN.{length, take, length-take}
-use Rattle.forms.specs.declared.Scan.{Scan}
-use Rattle.forms.specs.Faults.{read_text, with_bytes}
-use Rattle.csv_text.proofs.Turns.{lines_most, scan_turn}
-use borrow.Author.Rules.{rules}
+use mathlib.Core.Path.{◌≡◌}
+use lib.ListN.{length, take}
+use Rattle.forms.specs.Faults.{read_text}
 use Rattle.sentences.proofs.faults.stopped.Given as goal
 
 abbrev pub invariant-loop-i : goal.invariant-loop-i

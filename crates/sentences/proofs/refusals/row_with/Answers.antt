@@ -1,7 +1,6 @@
 -- `row_with` meets its contract, by its test.
 -- Assumes nothing.
 use borrow.Author.Tests.{lt-ltb, le-ltb}
-use borrow.Author.Rules.{rules}
 use Rattle.sentences.specs.Named.{row_with}
 use Rattle.sentences.proofs.refusals.row_with.Goals as goal
 

@@ -1,6 +1,6 @@
 -- `fill` meets its contract. The loop's invariant: what remains of the template, put on the page as it is, is all of it put on the page as it was.
 -- Assumes nothing.
-use Prim.Native.Nat.{ℕ, ◌+◌, ◌≤◌, ◌<◌, ◌-◌}
+use Prim.Native.Nat.{ℕ, ◌+◌, ◌<◌, ◌-◌}
 use mathlib.Core.List.{List, []}
 use mathlib.Core.Path.{◌≡◌, sym, ap, ◌∙◌}
 use native.Mathlib.Numerals.{add-one}
@@ -10,7 +10,7 @@ use lib.Seq.{drop-cons}
 use borrow.Author.Rules.{rules}
 use Rattle.output.specs.Pages.{Page, page_of, with_text}
 use Rattle.output.proofs.Pages.{with_texts}
-use Rattle.sentences.specs.Filled.{part, next_after, filled_from, filled}
+use Rattle.sentences.specs.Filled.{part, next_after, filled_from}
 use Rattle.sentences.proofs.templates.fill.Goals as goal
 
 -- what remains, after one byte more of the template

@@ -1,16 +1,10 @@
 -- `fill` meets its contract. The loop's invariant: what remains of the template, put on the page as it is, is all of it put on the page as it was.
 -- Assumes nothing.
-use Prim.Native.Nat.{ℕ, ◌+◌, ◌≤◌, ◌<◌, ◌-◌}
-use mathlib.Core.List.{List, []}
-use mathlib.Core.Path.{◌≡◌, sym, ap, ◌∙◌}
-use native.Mathlib.Numerals.{add-one}
-use native.Mathlib.Omega.{arith}
-use lib.ListN.{length, get_or, drop, drop_of_length-le}
-use lib.Seq.{drop-cons}
-use borrow.Author.Rules.{rules}
-use Rattle.output.specs.Pages.{Page, page_of, with_text}
-use Rattle.output.proofs.Pages.{with_texts}
-use Rattle.sentences.specs.Filled.{part, next_after, filled_from, filled}
+use Prim.Native.Nat.{◌≤◌, ◌-◌}
+use mathlib.Core.Path.{◌≡◌}
+use lib.ListN.{length, drop}
+use Rattle.output.specs.Pages.{page_of, with_text}
+use Rattle.sentences.specs.Filled.{filled_from, filled}
 use Rattle.sentences.proofs.templates.fill.Given as goal
 
 abbrev pub invariant-loop-i : goal.invariant-loop-i

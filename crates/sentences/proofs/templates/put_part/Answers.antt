@@ -1,6 +1,5 @@
 -- `put_part` meets its contract, by its test.
 -- Assumes nothing.
-use borrow.Author.Rules.{rules}
 use borrow.Author.Tests.{eq-eqb, ne_eqb}
 use Rattle.sentences.specs.Filled.{part}
 use Rattle.sentences.proofs.templates.put_part.Goals as goal

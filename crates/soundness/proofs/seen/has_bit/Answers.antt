@@ -1,6 +1,5 @@
 -- `has_bit` meets its contract: a shift and a remainder find a bit.
 -- Assumes nothing.
-use borrow.Author.Rules.{rules}
 use Rattle.soundness.proofs.Bitwise.{bit_shifted}
 use Rattle.soundness.proofs.seen.has_bit.Goals as goal
 

@@ -2,7 +2,6 @@
 -- Assumes nothing.
 use mathlib.Core.Path.{◌∙◌}
 use native.Mathlib.Omega.{arith}
-use borrow.Author.Rules.{rules}
 use lib.ListN.{length-set}
 use Rattle.soundness.proofs.Bitwise.{unmet, met_more}
 use Rattle.soundness.proofs.seen.meet.Goals as goal

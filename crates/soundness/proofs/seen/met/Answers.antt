@@ -1,6 +1,5 @@
 -- `met` meets its contract.
 -- Assumes nothing.
-use borrow.Author.Rules.{rules}
 use Rattle.soundness.specs.Bits.{met}
 use Rattle.soundness.proofs.seen.met.Goals as goal
 

@@ -1,6 +1,5 @@
 -- `with_bit` meets its contract: a bit that is unset leaves room for its power.
 -- Assumes nothing.
-use borrow.Author.Rules.{rules}
 use Rattle.soundness.proofs.Bitwise.{one_shifted, bit_fits}
 use Rattle.soundness.proofs.seen.with_bit.Goals as goal
 

@@ -1,20 +1,19 @@
 -- `all_named` meets its contract: the rows passed are named, and the table has their identifiers.
 -- Assumes nothing.
-use Prim.Native.Nat.{ℕ, ◌-◌, ◌≤◌}
+use Prim.Native.Nat.{◌-◌}
 use mathlib.Core.Path.{◌≡◌, refl, sym, ◌∙◌}
 use mathlib.Core.Bool.{true, not, ◌&&◌}
 use native.Mathlib.Numerals.{add-one}
 use native.Mathlib.Omega.{arith}
-use borrow.Author.Rules.{rules}
-use borrow.Author.Tests.{not-true, not-false, leb-true}
+use borrow.Author.Tests.{not-true, leb-true}
 use lib.Dec.{ltb, leb}
-use lib.ListN.{length, get_or}
+use lib.ListN.{get_or}
 use Rattle.input.specs.Limits.{most_identifier}
 use Rattle.live_rules.specs.Soundness.{all, named}
-use Rattle.soundness.specs.Bits.{table_words, met}
+use Rattle.soundness.specs.Bits.{met}
 use Rattle.live_rules.proofs.Alls.{all_next, all_fails, all_same}
 use Rattle.soundness.proofs.Alls.{both_left, both_right}
-use Rattle.soundness.proofs.Names.{earlier_has, newly, named_newly, newly_test, met_start, met_turn}
+use Rattle.soundness.proofs.Names.{newly, named_newly, newly_test, met_start, met_turn}
 use Rattle.soundness.proofs.tree.all_named.Goals as goal
 
 pub loop-r-init : goal.loop-r-init

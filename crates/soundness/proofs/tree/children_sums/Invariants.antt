@@ -1,17 +1,11 @@
 -- `children_sums` meets its contract: the rows passed are added up for their parents.
 -- Assumes nothing.
-use Prim.Native.Nat.{ℕ, ◌+◌, ◌*◌, ◌-◌, ◌^◌, ◌≤◌, ◌<◌, max}
-use mathlib.Core.Path.{◌≡◌, refl, sym, ◌∙◌}
-use native.Mathlib.Numerals.{add-one}
-use native.Mathlib.Omega.{arith}
-use borrow.Author.Rules.{rules}
-use lib.ListN.{length, get_or, length-set}
-use Rattle.words.proofs.Entries.{entry_set}
+use Prim.Native.Nat.{ℕ, ◌*◌, ◌-◌, ◌^◌, ◌≤◌, ◌<◌, max}
+use mathlib.Core.Path.{◌≡◌}
+use lib.ListN.{length, get_or}
 use Rattle.input.specs.Limits.{most_rows}
 use Rattle.input.specs.Classes.{Tree}
 use Rattle.live_rules.specs.Soundness.{children_sum}
-use Rattle.laws.proofs.Event.Outset.{replicate_at}
-use Rattle.soundness.proofs.Turns.{sums_start, sums_turn, sums_end}
 use Rattle.soundness.proofs.tree.children_sums.Given as goal
 
 abbrev pub invariant-loop-r : goal.invariant-loop-r

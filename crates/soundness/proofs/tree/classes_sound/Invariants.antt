@@ -1,16 +1,11 @@
 -- `classes_sound` meets its contract: the rows passed are sound.
 -- Assumes nothing.
 use Prim.Native.Nat.{◌-◌, ◌≤◌, ◌<◌}
-use mathlib.Core.Path.{◌≡◌, refl, sym, ◌∙◌}
+use mathlib.Core.Path.{◌≡◌}
 use mathlib.Core.Bool.{true, ◌||◌}
-use native.Mathlib.Numerals.{add-one}
-use native.Mathlib.Omega.{arith}
-use borrow.Author.Rules.{rules}
-use borrow.Author.Tests.{ne_eqb, not-true, not-false}
 use lib.Dec.{eqb}
 use Rattle.input.specs.Classes.{Tree}
 use Rattle.live_rules.specs.Soundness.{all, class_sound}
-use Rattle.live_rules.proofs.Alls.{all_next, all_fails}
 use Rattle.soundness.proofs.tree.classes_sound.Given as goal
 
 abbrev pub invariant-loop-r : goal.invariant-loop-r

@@ -1,7 +1,6 @@
 -- `is_new` meets its contract: its answers go by the tests on their way.
 -- Assumes nothing.
 use native.Mathlib.Omega.{arith}
-use borrow.Author.Rules.{rules}
 use borrow.Author.Tests.{lt-ltb, le-leb, lt-leb}
 use Rattle.input.specs.Limits.{most_identifier}
 use Rattle.soundness.proofs.tree.is_new.Goals as goal

@@ -1,6 +1,5 @@
 -- `root_sound` meets its contract: its answers go by the tests on their way.
 -- Assumes nothing.
-use borrow.Author.Rules.{rules}
 use borrow.Author.Tests.{eq-eqb, ne_eqb}
 use Rattle.live_rules.specs.Soundness.{root_sound}
 use Rattle.soundness.proofs.tree.root_sound.Goals as goal

@@ -1,15 +1,12 @@
 -- `senders_of` meets its contract: the rows passed have marked their parents.
 -- Assumes nothing.
 use Prim.Native.Nat.{ℕ, ◌-◌, ◌≤◌, ◌<◌, max}
-use mathlib.Core.Path.{◌≡◌, refl, ◌∙◌, sym}
+use mathlib.Core.Path.{◌≡◌}
 use mathlib.Core.Bool.{false}
-use native.Mathlib.Numerals.{add-one}
-use native.Mathlib.Omega.{arith}
-use borrow.Author.Rules.{rules}
-use lib.ListN.{length, get_or, length-set}
+use lib.ListN.{length, get_or}
 use Rattle.input.specs.Limits.{most_rows}
 use Rattle.input.specs.Classes.{Tree}
-use Rattle.soundness.proofs.Turns.{childless, sends_is, senders_start, senders_turn}
+use Rattle.soundness.proofs.Turns.{childless}
 use Rattle.soundness.proofs.tree.senders_of.Given as goal
 
 abbrev pub invariant-loop-r : goal.invariant-loop-r

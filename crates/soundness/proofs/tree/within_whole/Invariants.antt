@@ -1,17 +1,12 @@
 -- `within_whole` meets its contract: the numbers passed are within a whole.
 -- Assumes nothing.
 use Prim.Native.Nat.{◌-◌, ◌≤◌}
-use mathlib.Core.Path.{◌≡◌, refl, sym}
+use mathlib.Core.Path.{◌≡◌}
 use mathlib.Core.Bool.{true}
-use native.Mathlib.Numerals.{add-one}
-use native.Mathlib.Omega.{arith}
-use borrow.Author.Rules.{rules}
-use borrow.Author.Tests.{le-leb, lt-leb}
 use lib.Dec.{leb}
 use lib.ListN.{get_or}
 use Rattle.input.specs.Limits.{whole}
 use Rattle.live_rules.specs.Soundness.{all}
-use Rattle.live_rules.proofs.Alls.{all_next, all_fails}
 use Rattle.soundness.proofs.tree.within_whole.Given as goal
 
 abbrev pub invariant-loop-p : goal.invariant-loop-p

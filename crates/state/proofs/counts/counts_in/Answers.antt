@@ -1,6 +1,5 @@
 -- `state::counts::counts_in` meets its contract: the three words, and the test of them.
 -- Assumes nothing.
-use borrow.Author.Rules.{rules}
 use lib.ListN.{get_or}
 use Rattle.live_rules.proofs.Packets.{packets_length}
 use Rattle.live_rules.specs.Soundness.{few}

@@ -1,6 +1,5 @@
 -- `state::filling::all_four` meets its contract: the first that is false decides.
 -- Assumes nothing.
-use borrow.Author.Tests.{not-true, not-false}
 use Rattle.state.proofs.filling.all_four.Goals as goal
 
 pub returns-then-not-first : goal.returns-then-not-first

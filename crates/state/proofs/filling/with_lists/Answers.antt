@@ -4,7 +4,6 @@ use mathlib.Core.Bool.{true, false, false≢true}
 use mathlib.Core.Path.{refl, sym, ap, ◌∙◌}
 use native.Mathlib.Omega.{arith}
 use borrow.Author.Tests.{not-true, not-false}
-use borrow.Author.Rules.{rules}
 use Rattle.live_rules.specs.State.{live_in}
 use Rattle.state.specs.declared.counts.Counts.{Counts}
 use Rattle.state.specs.declared.State.{State}

@@ -3,8 +3,6 @@
 use mathlib.Core.Bool.{true, false, false≢true}
 use mathlib.Core.Path.{sym, ◌∙◌}
 use native.Mathlib.Omega.{arith}
-use borrow.Author.Tests.{not-true, not-false}
-use borrow.Author.Rules.{rules}
 use Rattle.live_rules.specs.State.{live_in}
 use Rattle.state.proofs.Opening.{some_rows, few_rows, few_packets, arrived, few_accepted, tree_same, packets_verdict, read_so}
 use Rattle.state.proofs.Parts.{tree_fails, packets_fail}

@@ -1,7 +1,6 @@
 -- `taking::take::take_arrival` meets its contract: the rows after the arrival and the packet that joined are stored.
 -- Assumes nothing.
 use native.Mathlib.Omega.{arith}
-use borrow.Author.Rules.{rules}
 use Rattle.live_rules.specs.State.{live_in}
 use Rattle.taking.proofs.Taken.{arrival_comes, arrival_full, arrival_left}
 use Rattle.taking.proofs.take.take_arrival.Goals as goal

@@ -1,9 +1,7 @@
 -- `taking::take::take_finish` meets its contract: the rows after the finish are stored, and the line's packet is taken out.
 -- Assumes nothing.
-use mathlib.Core.Path.{◌≡◌, ap, sym, ◌∙◌}
 use native.Mathlib.Omega.{arith}
-use borrow.Author.Rules.{rules}
-use Rattle.live_rules.specs.State.{live_in, packets_at}
+use Rattle.live_rules.specs.State.{live_in}
 use Rattle.taking.proofs.Taken.{line_some, held_worded, line_found, line_held, next_comes, finish_full, finish_left}
 use Rattle.taking.proofs.take.take_finish.Goals as goal
 

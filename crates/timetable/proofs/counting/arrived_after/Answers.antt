@@ -1,7 +1,6 @@
 -- `counting::arrived_after` meets its contract: a packet arrives unless the class is 0.
 -- Assumes nothing.
 use native.Mathlib.Omega.{arith}
-use borrow.Author.Rules.{rules}
 use Rattle.timetable.proofs.Arrivals.{none_arrives, one_arrives}
 use Rattle.timetable.proofs.counting.arrived_after.Goals as goal
 

@@ -1,16 +1,14 @@
 -- `counting::count_records` meets its contract. The loop's invariant: the records of the places passed are kept, as many packets as are
 -- counted arrived at them, and the other words are as they were.
 -- Assumes nothing.
-use Prim.Native.Nat.{ℕ, ◌≤◌, ◌-◌}
-use mathlib.Core.Path.{◌≡◌, refl}
-use mathlib.Core.List.{List}
+use Prim.Native.Nat.{◌-◌}
+use mathlib.Core.Path.{refl}
 use native.Mathlib.Numerals.{add-one}
 use native.Mathlib.Omega.{arith}
-use lib.ListN.{length, get_or, length-set}
+use lib.ListN.{length-set}
 use borrow.Author.Rules.{rules}
-use Rattle.input.specs.Lent.{events_of}
 use Rattle.pcap.specs.Printed.{record_of}
-use Rattle.timetable.proofs.Arrivals.{Below, kept_at, rest_at, one_more}
+use Rattle.timetable.proofs.Arrivals.{kept_at, rest_at, one_more}
 use Rattle.timetable.proofs.counting.count_records.Goals as goal
 
 pub loop-i-init : goal.loop-i-init

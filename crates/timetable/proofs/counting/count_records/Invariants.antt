@@ -2,15 +2,12 @@
 -- counted arrived at them, and the other words are as they were.
 -- Assumes nothing.
 use Prim.Native.Nat.{ℕ, ◌≤◌, ◌-◌}
-use mathlib.Core.Path.{◌≡◌, refl}
+use mathlib.Core.Path.{◌≡◌}
 use mathlib.Core.List.{List}
-use native.Mathlib.Numerals.{add-one}
-use native.Mathlib.Omega.{arith}
-use lib.ListN.{length, get_or, length-set}
-use borrow.Author.Rules.{rules}
+use lib.ListN.{length, get_or}
 use Rattle.input.specs.Lent.{events_of}
 use Rattle.pcap.specs.Printed.{record_of}
-use Rattle.timetable.proofs.Arrivals.{Below, kept_at, rest_at, one_more}
+use Rattle.timetable.proofs.Arrivals.{Below}
 use Rattle.timetable.proofs.counting.count_records.Given as goal
 
 abbrev pub invariant-loop-i : goal.invariant-loop-i

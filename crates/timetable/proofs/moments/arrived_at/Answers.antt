@@ -1,7 +1,6 @@
 -- `moments::arrived_at` meets its contract, by its test.
 -- Assumes nothing.
 use native.Mathlib.Omega.{arith}
-use borrow.Author.Rules.{rules}
 use Rattle.timetable.proofs.moments.arrived_at.Goals as goal
 
 pub returns-then-stamp-first : goal.returns-then-stamp-first
