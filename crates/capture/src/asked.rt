@@ -1,13 +1,12 @@
 // The numbers that the arguments ask for.
-use files::hand_over;
-use libc::STDERR_FILENO;
+use files::{STDERR_FILENO, hand_over};
 use output::{put_byte, put_named, put_text};
 use text::Field;
 
 // An argument as a number; of one that is none it says so, by its name. The longest that the system passes has 131,071 bytes.
-pub fn argument(place: usize, name: &[u8]) -> Field {
+pub fn argument(rt: &HostRuntime, place: usize, name: &[u8]) -> Field {
     let mut word = [0u8; 131072];
-    let length = os::arg(place, &mut word);
+    let length = files::argument(rt, place, &mut word);
     let field = text::number(&word[..length]);
     complain(name, field);
     field

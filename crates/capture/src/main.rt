@@ -16,7 +16,7 @@ ghost use Rattle.pcap.specs.Lists.{Stamped};
 use asked::argument;
 use captures::MOST_RECORDS;
 use choosing::Way;
-use files::{Status, complain, end_with, first, input_twice, load_capture, load_table};
+use files::{Status, argument_count, complain, end_with, first, input_twice, load_capture, load_table};
 use input::{Answer, MOST_EVENTS, REPORT_WORDS};
 use pcap::Sorting;
 use reading::read_records;
@@ -26,33 +26,34 @@ use text::Field;
 // The bytes of a capture that are held.
 const HELD_CAPTURE: usize = 4194304;
 
-fn main() {
-    end_with(called());
+fn main(rt: HostRuntime) {
+    end_with(called(&rt));
 }
 
 // Looks at the call and goes on.
-fn called() -> Status {
-    if os::arg_count() != 7 {
+fn called(rt: &HostRuntime) -> Status {
+    if argument_count(rt) != 7 {
         return complain(
             b"cannot read: give a capture, a class table, three classes and a rate, capture CAPTURE TABLE FIRST SECOND THIRD RATE\n",
         );
     }
-    if input_twice() {
+    if input_twice(rt) {
         return files::twice();
     }
-    let Field::Number(first) = argument(3, b"FIRST") else {
+    let Field::Number(first) = argument(rt, 3, b"FIRST") else {
         return Status::Failed;
     };
-    let Field::Number(second) = argument(4, b"SECOND") else {
+    let Field::Number(second) = argument(rt, 4, b"SECOND") else {
         return Status::Failed;
     };
-    let Field::Number(third) = argument(5, b"THIRD") else {
+    let Field::Number(third) = argument(rt, 5, b"THIRD") else {
         return Status::Failed;
     };
-    let Field::Number(rate) = argument(6, b"RATE") else {
+    let Field::Number(rate) = argument(rt, 6, b"RATE") else {
         return Status::Failed;
     };
     with_numbers(
+        rt,
         Sorting {
             first,
             second,
@@ -63,12 +64,12 @@ fn called() -> Status {
 }
 
 // Reads the capture and goes on.
-fn with_numbers(sorting: Sorting, rate: u32) -> Status {
+fn with_numbers(rt: &HostRuntime, sorting: Sorting, rate: u32) -> Status {
     let mut capture = blank();
-    let held = load_capture(1, &mut capture);
+    let held = load_capture(rt, 1, &mut capture);
     let size = held.size;
     if held.good {
-        return with_capture(&capture[..size], sorting, rate);
+        return with_capture(rt, &capture[..size], sorting, rate);
     }
     Status::Failed
 }
@@ -81,14 +82,15 @@ fn blank() -> [u8; HELD_CAPTURE]
 }
 
 // Reads the table and goes on.
-fn with_capture(capture: &[u8], sorting: Sorting, rate: u32) -> Status {
+fn with_capture(rt: &HostRuntime, capture: &[u8], sorting: Sorting, rate: u32) -> Status {
     let mut identifiers = [0u32; HELD_ROWS];
     let mut parents = [0u32; HELD_ROWS];
     let mut shares = [0u32; HELD_ROWS];
-    let table = load_table(2, &mut identifiers, &mut parents, &mut shares);
+    let table = load_table(rt, 2, &mut identifiers, &mut parents, &mut shares);
     let status = table.status;
     if let Status::Done = status {
         return with_table(
+            rt,
             capture,
             sorting,
             rate,
@@ -104,6 +106,7 @@ fn with_capture(capture: &[u8], sorting: Sorting, rate: u32) -> Status {
 // Reads the records and goes on. Their classes and lengths stand where the list is put, and stay there if it is refused. The count of rows
 // is that of the file, of which the slices may have less.
 fn with_table<'a>(
+    rt: &HostRuntime,
     capture: &'a [u8],
     sorting: Sorting,
     rate: u32,
@@ -124,6 +127,7 @@ fn with_table<'a>(
         &mut lengths,
     );
     replay(
+        rt,
         capture,
         sorting,
         rate,
@@ -139,6 +143,7 @@ fn with_table<'a>(
 
 // Replays the packets and goes on.
 fn replay<'a>(
+    rt: &HostRuntime,
     capture: &'a [u8],
     sorting: Sorting,
     rate: u32,
@@ -165,6 +170,7 @@ fn replay<'a>(
         &mut order,
     );
     tell(
+        rt,
         answer,
         capture,
         rate,
@@ -181,6 +187,7 @@ fn replay<'a>(
 
 // Prints what came of a replay, done or refused, and answers how that ended.
 fn tell<'a>(
+    rt: &HostRuntime,
     answer: Answer,
     capture: &'a [u8],
     rate: u32,
@@ -196,9 +203,10 @@ fn tell<'a>(
     requires { Stamped stamps.now × (length classes.now ≤ most_events) }
 {
     if answer.number == 0 {
-        return printing::print(answer, rate, stamps, classes, lengths, order);
+        return printing::print(rt, answer, rate, stamps, classes, lengths, order);
     }
     refusals::tell(
+        rt,
         answer,
         capture,
         rate,

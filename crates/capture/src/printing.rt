@@ -12,6 +12,7 @@ use words::long;
 
 // Prints all of it, from the records' stamps, the list that was replayed and the order of sending, and answers how that ended.
 pub fn print<'a>(
+    rt: &HostRuntime,
     answer: Answer,
     rate: u32,
     stamps: &'a [u64],
@@ -21,11 +22,12 @@ pub fn print<'a>(
 ) -> Status
     requires { Stamped stamps.now × (length classes.now ≤ most_events) }
 {
-    if !print_heading(answer) {
+    if !print_heading(rt, answer) {
         return Status::Failed;
     }
     let packets = long(answer.count);
     print_packets(
+        rt,
         rate,
         stamps,
         first(classes, 2 * packets),
@@ -35,14 +37,15 @@ pub fn print<'a>(
 }
 
 // The answer's two lines and the heading; answers whether they were written.
-fn print_heading(answer: Answer) -> bool {
+fn print_heading(rt: &HostRuntime, answer: Answer) -> bool {
     let mut page = [0u8; 512];
     let used = lines::put_answer(&mut page, 0, answer);
     let used = timetable::put_heading(&mut page, used);
-    files::print(&page, used)
+    files::print(rt, &page, used)
 }
 
 fn print_packets<'a>(
+    rt: &HostRuntime,
     rate: u32,
     stamps: &'a [u64],
     classes: &'a [u32],
@@ -53,12 +56,13 @@ fn print_packets<'a>(
 {
     let mut records = [0u32; MOST_EVENTS + 1];
     timetable::count_records(classes, &mut records);
-    print_pieces(rate, stamps, classes, lengths, &records, order)
+    print_pieces(rt, rate, stamps, classes, lengths, &records, order)
 }
 
 // Some packets at a time, so that a small page holds their lines. No run comes to a moment past the latest (`Latest: in-time` of the
 // crate `timetable`); a piece that could not be written gives one, and nothing more is printed.
 fn print_pieces<'a>(
+    rt: &HostRuntime,
     rate: u32,
     stamps: &'a [u64],
     classes: &'a [u32],
@@ -75,6 +79,7 @@ fn print_pieces<'a>(
             return Status::Failed;
         }
         free = print_piece(
+            rt,
             rate,
             stamps,
             classes,
@@ -105,6 +110,7 @@ fn piece(order: &[u32], from: usize) -> &[u32]
 
 // Prints the lines of these packets, and answers when the line is free after them.
 fn print_piece<'a>(
+    rt: &HostRuntime,
     rate: u32,
     stamps: &'a [u64],
     classes: &'a [u32],
@@ -120,7 +126,7 @@ fn print_piece<'a>(
     let put = timetable::put_packets(
         &mut page, 0, stamps, classes, lengths, records, rate, free, order,
     );
-    if files::print(&page, put.used) {
+    if files::print(rt, &page, put.used) {
         return put.free;
     }
     u64::MAX

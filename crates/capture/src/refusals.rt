@@ -5,9 +5,8 @@ ghost use Rattle.pcap.specs.Headers.{header_bytes, record_bytes};
 use crate::packets::of_packet;
 use crate::reading::{headed, number_of};
 use captures::MOST_RECORDS;
-use files::{NO_FILE, Status, begin_refusal, hand_over, print_answer};
+use files::{NO_FILE, STDERR_FILENO, Status, begin_refusal, hand_over, print_answer};
 use input::Answer;
-use libc::STDERR_FILENO;
 use pcap::Layout;
 use records::{
     HEADER_BYTES, LEAST_HEADER, RECORD_BYTES, half, included, layout_of, offset_of, packet, stamp,
@@ -19,6 +18,7 @@ use words::{long, wide};
 // Prints a refusal's answer and, once that is written, says to standard error what it names. The classes and the lengths are the records'.
 // Answers how it ended.
 pub fn tell<'a>(
+    rt: &HostRuntime,
     answer: Answer,
     capture: &'a [u8],
     rate: u32,
@@ -29,11 +29,11 @@ pub fn tell<'a>(
     classes: &'a [u32],
     lengths: &'a [u32],
 ) -> Status {
-    if !print_answer(answer) {
+    if !print_answer(rt, answer) {
         return Status::Failed;
     }
     let mut page = [0u8; SENTENCE_BYTES];
-    let used = begin_refusal(&mut page, answer.number, file_of(answer.number));
+    let used = begin_refusal(rt, &mut page, answer.number, file_of(answer.number));
     let used = put_sentence(
         &mut page,
         used,

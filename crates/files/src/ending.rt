@@ -3,11 +3,15 @@ ghost use Rattle.std.specs.Prelude.{◌≡◌};
 ghost use Rattle.files.specs.Statuses as statuses;
 
 use crate::Status;
-use libc::STDERR_FILENO;
+use crate::arguments::argument;
 use sentences::put_refused;
+use std::rt::Env;
 
 // No program has so many arguments.
 pub const NO_FILE: usize = usize::MAX;
+
+// Standard error.
+pub const STDERR_FILENO: i32 = 2;
 
 // Where a program that is started by a script hands over how it ended; it has no exit status of its own.
 const STATUS_FILENO: i32 = 3;
@@ -30,9 +34,9 @@ pub fn refused(written: bool) -> Status
 }
 
 // Begins the sentence on a refusal of what the file that an argument names holds. A file that was read has a name of less than 4,096 bytes.
-pub fn begin_refusal(page: &mut [u8], number: u32, argument: usize) -> usize {
+pub fn begin_refusal(rt: &impl Env, page: &mut [u8], number: u32, place: usize) -> usize {
     let mut name = [0u8; 4096];
-    let length = os::arg(argument, &mut name);
+    let length = argument(rt, place, &mut name);
     put_refused(page, 0, number, &name[..length])
 }
 

@@ -1,7 +1,8 @@
 // Handing what is put on a page over to the system.
+use crate::errors;
+use crate::errors::EINVAL;
 use crate::writing::cannot_write;
 use input::Answer;
-use libc::STDOUT_FILENO;
 
 // Writes what is used of the page, and answers whether all of it was written.
 pub fn hand_over(to: i32, page: &[u8], used: usize) -> bool {
@@ -12,17 +13,23 @@ pub fn hand_over(to: i32, page: &[u8], used: usize) -> bool {
 }
 
 // Prints what is used of the page; where it cannot be written, that is said. Answers whether it was written.
-pub fn print(page: &[u8], used: usize) -> bool {
-    if hand_over(STDOUT_FILENO, page, used) {
-        return true;
+pub fn print(rt: &impl Print, page: &[u8], used: usize) -> bool {
+    if page.len() < used {
+        cannot_write(EINVAL);
+        return false;
     }
-    cannot_write(os::errno());
-    false
+    match rt.write_all(&page[..used]) {
+        Ok(()) => true,
+        Err(error) => {
+            cannot_write(errors::number(error));
+            false
+        }
+    }
 }
 
 // Prints an answer's two lines, and answers whether they were written.
-pub fn print_answer(answer: Answer) -> bool {
+pub fn print_answer(rt: &impl Print, answer: Answer) -> bool {
     let mut page = [0u8; 512];
     let used = lines::put_answer(&mut page, 0, answer);
-    print(&page, used)
+    print(rt, &page, used)
 }

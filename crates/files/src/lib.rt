@@ -1,7 +1,9 @@
 // Class tables, lists of events and captures in files: reading one, what is said where it cannot be read, printing, and how a program ends.
 #![tactic(auto)]
 
+mod arguments;
 mod ending;
+pub mod errors;
 mod handing;
 mod opening;
 mod reading;
@@ -10,9 +12,10 @@ pub mod unreadable;
 mod whole;
 mod writing;
 
-pub use ending::{NO_FILE, begin_refusal, complain, end_with, refused};
+pub use arguments::{argument, argument_count};
+pub use ending::{NO_FILE, STDERR_FILENO, begin_refusal, complain, end_with, refused};
 pub use handing::{hand_over, print, print_answer};
-pub use opening::{argument_is_input, input_twice, open, twice};
+pub use opening::{Opened, argument_is_input, input_twice, open, text_of, twice};
 pub use reading::{first, judged, keep, load, read_some};
 pub use tables::{first_bytes, load_table, say_fault};
 pub use whole::{load_capture, load_text};

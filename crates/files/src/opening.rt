@@ -1,21 +1,49 @@
 // Opening the file that a name stands for, which may be standard input.
 use crate::Status;
+use crate::arguments::argument;
 use crate::ending::complain;
-use libc::STDIN_FILENO;
+use crate::errors::EILSEQ;
 use sentences::is_input;
+use std::io::Read;
+use std::rt::{Env, Files};
+use std::{fs, io, str};
 
-// A descriptor, or -1.
-pub fn open(name: &[u8]) -> i32 {
-    if is_input(name) {
-        return STDIN_FILENO;
+// What a name stands for, once it is open: a file, or standard input.
+#[derive(Drop)]
+pub enum Opened<F, I> {
+    File(F),
+    Input(I),
+}
+
+impl<F: Read, I: Read> Read for Opened<F, I> {
+    fn read(&mut self, buf: &mut [u8]) -> io::Result<usize> {
+        match self {
+            Opened::File(file) => file.read(buf),
+            Opened::Input(input) => input.read(buf),
+        }
     }
-    os::open_read(name)
+}
+
+pub fn open<R: Files + Input>(rt: &R, name: &[u8]) -> io::Result<Opened<R::File, R::Reader>> {
+    if is_input(name) {
+        return Ok(Opened::Input(rt.reader()));
+    }
+    let file = fs::open(rt, text_of(name)?)?;
+    Ok(Opened::File(file))
+}
+
+// A name as the text that std opens. One that is none is refused as file systems refuse it that take text alone.
+pub fn text_of(name: &[u8]) -> io::Result<&str> {
+    match str::from_utf8(name) {
+        Ok(text) => Ok(text),
+        Err(_) => Err(io::Error::from_raw_os_error(EILSEQ)),
+    }
 }
 
 // Whether both of the first two arguments stand for standard input.
-pub fn input_twice() -> bool {
-    if argument_is_input(1) {
-        return argument_is_input(2);
+pub fn input_twice(rt: &impl Env) -> bool {
+    if argument_is_input(rt, 1) {
+        return argument_is_input(rt, 2);
     }
     false
 }
@@ -26,8 +54,8 @@ pub fn twice() -> Status {
 }
 
 // Whether one argument does. A longer one than the room for it does not.
-pub fn argument_is_input(argument: usize) -> bool {
+pub fn argument_is_input(rt: &impl Env, place: usize) -> bool {
     let mut name = [0u8; 8];
-    let length = os::arg(argument, &mut name);
+    let length = argument(rt, place, &mut name);
     is_input(&name[..length])
 }

@@ -3,25 +3,29 @@ ghost use Rattle.std.specs.Prelude.{◌≡◌, false, cond, ◌-◌, set, take};
 ghost use Rattle.text.specs.Reading.{unread};
 ghost use Rattle.files.specs.Columns as columns;
 
+use crate::arguments::argument;
+use crate::errors;
 use crate::opening::open;
 use crate::unreadable::{cannot_open, cannot_read};
 use crate::{Loaded, Status, Turn};
+use std::io::Read;
+use std::rt::{Env, Files};
 use text::{Found, Scan};
 
 // Reads the file that an argument names, and says what is wrong with it if something is. The longest argument that the system
 // passes has 131,071 bytes. Lines past the end of the columns are counted and not kept.
-pub fn load(argument: usize, first: &mut [u32], second: &mut [u32]) -> Loaded
+pub fn load(rt: &(impl Env + Files + Input), place: usize, first: &mut [u32], second: &mut [u32]) -> Loaded
     ensures { columns.Loads first.old second.old first.new second.new result }
 {
     let mut name = [0u8; 131072];
-    let length = os::arg(argument, &mut name);
-    load_named(&name[..length], first, second)
+    let length = argument(rt, place, &mut name);
+    load_named(rt, &name[..length], first, second)
 }
 
-fn load_named(name: &[u8], first: &mut [u32], second: &mut [u32]) -> Loaded
+fn load_named(rt: &(impl Files + Input), name: &[u8], first: &mut [u32], second: &mut [u32]) -> Loaded
     ensures { columns.Loads first.old second.old first.new second.new result }
 {
-    let end = read_file(name, first, second);
+    let end = read_file(rt, name, first, second);
     judged(name, end)
 }
 
@@ -60,18 +64,15 @@ fn one_less(n: u64) -> u64
     if n == 0 { 0 } else { n - 1 }
 }
 
-fn read_file(name: &[u8], first: &mut [u32], second: &mut [u32]) -> Turn
+fn read_file(rt: &(impl Files + Input), name: &[u8], first: &mut [u32], second: &mut [u32]) -> Turn
     ensures { columns.Filled (columns.columns_of unread first.old second.old)
         (columns.columns_of result.scan first.new second.new) }
 {
     let start = text::begin();
-    let file = open(name);
-    if file < 0 {
-        return ended(true, os::errno(), start);
+    match open(rt, name) {
+        Ok(mut file) => read_all(&mut file, start, first, second),
+        Err(error) => ended(true, errors::number(error), start),
     }
-    let end = read_all(file, start, first, second);
-    libc::close(file);
-    end
 }
 
 // No more comes.
@@ -88,7 +89,7 @@ fn ended(failed: bool, error: i32, scan: Scan) -> Turn
 
 // Reads to the end of the file. A loop has to end, and nothing says that a file does, so this one counts its turns down from a
 // number that no run uses up.
-fn read_all(file: i32, start: Scan, first: &mut [u32], second: &mut [u32]) -> Turn
+fn read_all(file: &mut impl Read, start: Scan, first: &mut [u32], second: &mut [u32]) -> Turn
     ensures { columns.Filled (columns.columns_of start first.old second.old)
         (columns.columns_of result.scan first.new second.new) }
 {
@@ -111,22 +112,20 @@ fn read_all(file: i32, start: Scan, first: &mut [u32], second: &mut [u32]) -> Tu
 }
 
 // One read, of at most 65,536 bytes. Where it gives none, no more comes.
-pub fn read_some(file: i32, scan: Scan, first: &mut [u32], second: &mut [u32]) -> Turn
+pub fn read_some(file: &mut impl Read, scan: Scan, first: &mut [u32], second: &mut [u32]) -> Turn
     ensures { columns.Filled (columns.columns_of scan first.old second.old)
         (columns.columns_of result.scan first.new second.new) }
 {
     let mut buffer = [0u8; 65536];
-    let got = libc::read(file, &mut buffer);
-    if got <= 0 {
-        return ended(got < 0, os::errno(), scan);
-    }
-    let n = io::count(got, &buffer);
-    let next = read_bytes(scan, &buffer[..n], first, second);
-    Turn {
-        more: true,
-        failed: false,
-        error: 0,
-        scan: next,
+    match file.read(&mut buffer) {
+        Ok(0) => ended(false, 0, scan),
+        Ok(n) => Turn {
+            more: true,
+            failed: false,
+            error: 0,
+            scan: read_bytes(scan, &buffer[..n], first, second),
+        },
+        Err(error) => ended(true, errors::number(error), scan),
     }
 }
 

@@ -3,18 +3,19 @@ ghost use Rattle.std.specs.Prelude.{◌≡◌, take};
 ghost use Rattle.input.specs.Lent.{table_of};
 ghost use Rattle.files.specs.Tables.{LoadsTable};
 
-use crate::ending::{begin_refusal, refused};
+use crate::ending::{STDERR_FILENO, begin_refusal, refused};
 use crate::handing::{hand_over, print_answer};
 use crate::reading::none;
 use crate::whole::load_text;
 use crate::{Loaded, Status};
 use input::{Answer, Refusal};
-use libc::STDERR_FILENO;
 use sentences::{HELD_BYTES, SENTENCE_BYTES};
+use std::rt::{Env, Files};
 
 // Reads the table that an argument names. Of a text with a fault it prints the answer and, once that is written, says to standard
 // error what to mend. Where the slices have no room for all rows these are counted, and none is kept.
 pub fn load_table(
+    rt: &(impl Env + Files + Input + Print),
     argument: usize,
     identifiers: &mut [u32],
     parents: &mut [u32],
@@ -24,15 +25,16 @@ pub fn load_table(
         (table_of identifiers.new parents.new shares.new) result }
 {
     let mut text = [0u8; HELD_BYTES];
-    let held = load_text(argument, &mut text);
+    let held = load_text(rt, argument, &mut text);
     if held.good {
-        return read_held(argument, &text, held.size, identifiers, parents, shares);
+        return read_held(rt, argument, &text, held.size, identifiers, parents, shares);
     }
     none()
 }
 
 // The rows of a text of so many bytes, of which these were read from the file that an argument names.
 fn read_held(
+    rt: &(impl Env + Print),
     argument: usize,
     text: &[u8],
     size: usize,
@@ -51,7 +53,7 @@ fn read_held(
             rows: read.rows,
         };
     }
-    let written = tell(argument, fault, text, size);
+    let written = tell(rt, argument, fault, text, size);
     Loaded {
         status: refused(written),
         rows: 0,
@@ -59,24 +61,24 @@ fn read_held(
 }
 
 // The fault of such a text; answers whether its answer was written.
-fn tell(argument: usize, fault: Refusal, text: &[u8], size: usize) -> bool {
+fn tell(rt: &(impl Env + Print), argument: usize, fault: Refusal, text: &[u8], size: usize) -> bool {
     let answer = Answer {
         number: fault.number,
         place: fault.place,
         second: fault.second,
         count: 0,
     };
-    if !print_answer(answer) {
+    if !print_answer(rt, answer) {
         return false;
     }
-    say_fault(argument, fault, text, size);
+    say_fault(rt, argument, fault, text, size);
     true
 }
 
 // Says what to mend, to standard error.
-pub fn say_fault(argument: usize, fault: Refusal, text: &[u8], size: usize) {
+pub fn say_fault(rt: &impl Env, argument: usize, fault: Refusal, text: &[u8], size: usize) {
     let mut page = [0u8; SENTENCE_BYTES];
-    let used = begin_refusal(&mut page, fault.number, argument);
+    let used = begin_refusal(rt, &mut page, fault.number, argument);
     let used = sentences::fault_sentence(
         &mut page,
         used,

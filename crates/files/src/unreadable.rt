@@ -4,8 +4,9 @@ ghost use Rattle.output.specs.Pages.{Puts};
 ghost use Rattle.files.specs.Sentences as sentences;
 
 use crate::Unread;
+use crate::ending::STDERR_FILENO;
+use crate::errors::{EACCES, EISDIR, ENAMETOOLONG, ENOENT, ENOTDIR, EPERM};
 use crate::handing::hand_over;
-use libc::STDERR_FILENO;
 use output::{put_byte, put_named, put_number, put_text, put_word};
 use sentences::put_name;
 use text::Found;
@@ -35,22 +36,22 @@ pub fn cannot_read(name: &[u8], lines: u64, found: Found) {
 
 // What the system's error means, of a file that is opened or read.
 pub fn why(error: i32) -> Unread {
-    if error == libc::ENOENT {
+    if error == ENOENT {
         return Unread::Missing;
     }
-    if error == libc::ENOTDIR {
+    if error == ENOTDIR {
         return Unread::Missing;
     }
-    if error == libc::EISDIR {
+    if error == EISDIR {
         return Unread::Folder;
     }
-    if error == libc::EACCES {
+    if error == EACCES {
         return Unread::Forbidden;
     }
-    if error == libc::EPERM {
+    if error == EPERM {
         return Unread::Forbidden;
     }
-    if error == libc::ENAMETOOLONG {
+    if error == ENAMETOOLONG {
         return Unread::LongName;
     }
     Unread::Other(number_of(error))

@@ -2,33 +2,37 @@
 ghost use Rattle.files.specs.Lent.{Holds, HoldsAll, Gives};
 ghost use Rattle.std.specs.Prelude.{suc, ◌-◌, ◌^◌, ◌<◌, ◌≤◌, length};
 
+use crate::arguments::argument;
+use crate::errors;
 use crate::opening::open;
 use crate::unreadable::{cannot_open, too_long};
 use crate::{Held, Part};
+use std::io::Read;
+use std::rt::{Env, Files};
 
 // Reads the file that an argument names, and says so if it cannot be read. The longest argument that the system passes has
 // 131,071 bytes.
-pub fn load_text(argument: usize, text: &mut [u8]) -> Held
+pub fn load_text(rt: &(impl Env + Files + Input), place: usize, text: &mut [u8]) -> Held
     ensures { Holds text.old text.new result }
 {
     let mut name = [0u8; 131072];
-    let length = os::arg(argument, &mut name);
-    load_named(&name[..length], text)
+    let length = argument(rt, place, &mut name);
+    load_named(rt, &name[..length], text)
 }
 
 // Reads the capture that an argument names, and says so if it cannot be read or has more bytes than are lent.
-pub fn load_capture(argument: usize, capture: &mut [u8]) -> Held
+pub fn load_capture(rt: &(impl Env + Files + Input), place: usize, capture: &mut [u8]) -> Held
     ensures { HoldsAll capture.old capture.new result }
 {
     let mut name = [0u8; 131072];
-    let length = os::arg(argument, &mut name);
-    load_all(&name[..length], capture)
+    let length = argument(rt, place, &mut name);
+    load_all(rt, &name[..length], capture)
 }
 
-fn load_all(name: &[u8], capture: &mut [u8]) -> Held
+fn load_all(rt: &(impl Files + Input), name: &[u8], capture: &mut [u8]) -> Held
     ensures { HoldsAll capture.old capture.new result }
 {
-    let held = load_named(name, capture);
+    let held = load_named(rt, name, capture);
     if held.size <= capture.len() {
         return held;
     }
@@ -40,34 +44,31 @@ fn load_all(name: &[u8], capture: &mut [u8]) -> Held
     }
 }
 
-fn load_named(name: &[u8], text: &mut [u8]) -> Held
+fn load_named(rt: &(impl Files + Input), name: &[u8], text: &mut [u8]) -> Held
     ensures { Holds text.old text.new result }
 {
-    let held = read_file(name, text);
+    let held = read_file(rt, name, text);
     if !held.good {
         cannot_open(name, held.error);
     }
     held
 }
 
-fn read_file(name: &[u8], text: &mut [u8]) -> Held
+fn read_file(rt: &(impl Files + Input), name: &[u8], text: &mut [u8]) -> Held
     ensures { Holds text.old text.new result }
 {
-    let file = open(name);
-    if file < 0 {
-        return Held {
+    match open(rt, name) {
+        Ok(mut file) => read_all(&mut file, text),
+        Err(error) => Held {
             good: false,
-            error: os::errno(),
+            error: errors::number(error),
             size: 0,
-        };
+        },
     }
-    let held = read_all(file, text);
-    libc::close(file);
-    held
 }
 
 // Reads until the file ends or the text is full. A read may give fewer bytes than it is asked for.
-fn read_all(file: i32, text: &mut [u8]) -> Held
+fn read_all(file: &mut impl Read, text: &mut [u8]) -> Held
     ensures { Holds text.old text.new result }
 {
     let mut used = 0;
@@ -86,7 +87,7 @@ fn read_all(file: i32, text: &mut [u8]) -> Held
 }
 
 // Whether the file goes on.
-fn read_past(file: i32, used: usize) -> Held
+fn read_past(file: &mut impl Read, used: usize) -> Held
     requires { used < 2 ^ 64 - 1 }
     ensures { result.size ≤ suc used }
 {
@@ -99,13 +100,19 @@ fn read_past(file: i32, used: usize) -> Held
     }
 }
 
-fn read_part(file: i32, bytes: &mut [u8]) -> Part
+fn read_part(file: &mut impl Read, bytes: &mut [u8]) -> Part
     ensures { Gives (length bytes.old) result }
 {
-    let got = libc::read(file, bytes);
-    Part {
-        failed: got < 0,
-        error: os::errno(),
-        size: io::count(got, bytes),
+    match file.read(bytes) {
+        Ok(size) => Part {
+            failed: false,
+            error: 0,
+            size,
+        },
+        Err(error) => Part {
+            failed: true,
+            error: errors::number(error),
+            size: 0,
+        },
     }
 }

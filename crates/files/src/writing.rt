@@ -3,14 +3,15 @@ ghost use Rattle.output.specs.Pages.{Puts};
 ghost use Rattle.files.specs.Sentences as sentences;
 
 use crate::Unwritten;
+use crate::ending::STDERR_FILENO;
+use crate::errors::{EBADF, ENOSPC, EPIPE};
 use crate::handing::hand_over;
 use crate::unreadable::number_of;
-use libc::STDERR_FILENO;
 use output::{put_byte, put_named, put_text};
 
 // To a reader who has left nothing is said.
 pub fn cannot_write(error: i32) {
-    if error == libc::EPIPE {
+    if error == EPIPE {
         return;
     }
     let mut page = [0u8; 128];
@@ -20,10 +21,10 @@ pub fn cannot_write(error: i32) {
 
 // What the system's error means, of results that are written.
 fn why(error: i32) -> Unwritten {
-    if error == libc::ENOSPC {
+    if error == ENOSPC {
         return Unwritten::Full;
     }
-    if error == libc::EBADF {
+    if error == EBADF {
         return Unwritten::Closed;
     }
     Unwritten::Other(number_of(error))

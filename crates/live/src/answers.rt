@@ -6,18 +6,18 @@ use live_rules::LiveAnswer;
 // Room for the heading and for one answer (`Room: live-room` of the crate `forms`).
 const ANSWER_BYTES: usize = 34 + 106;
 
-pub fn print_heading() -> bool {
+pub fn print_heading(rt: &HostRuntime) -> bool {
     let mut page = [0u8; ANSWER_BYTES];
     let used = put_live_heading(&mut page, 0);
-    files::print(&page, used)
+    files::print(rt, &page, used)
 }
 
 // Prints an answer under the heading, and answers whether both were written.
-pub fn print_answer(answer: LiveAnswer) -> bool {
+pub fn print_answer(rt: &HostRuntime, answer: LiveAnswer) -> bool {
     let mut page = [0u8; ANSWER_BYTES];
     let used = put_live_heading(&mut page, 0);
     let used = put_answer(&mut page, used, answer);
-    files::print(&page, used)
+    files::print(rt, &page, used)
 }
 
 pub fn put_answer(page: &mut [u8], used: usize, answer: LiveAnswer) -> usize {

@@ -6,9 +6,10 @@ use crate::answers::print_heading;
 use crate::states::load_sound;
 use crate::taking::{MOST_A_READ, take};
 use files::unreadable::cannot_open;
-use files::{Status, Turn, judged, open, read_some};
+use files::{Status, Turn, argument, errors, judged, open, read_some};
 use input::{MOST_ROWS, REPORT_WORDS};
 use live_rules::STATE_WORDS;
+use std::io::Read;
 use text::Scan;
 
 // Which argument names the list.
@@ -24,45 +25,44 @@ struct Taken {
     scan: Scan,
 }
 
-pub fn events() -> Status {
+pub fn events(rt: &HostRuntime) -> Status {
     let mut state = [0u64; STATE_WORDS];
     let mut report = [0u64; REPORT_WORDS * MOST_ROWS];
     let mut lags = [0i64; MOST_ROWS];
-    let status = load_sound(&mut state, &mut report, &mut lags);
+    let status = load_sound(rt, &mut state, &mut report, &mut lags);
     if let Status::Done = status {
-        return with_state(&mut state);
+        return with_state(rt, &mut state);
     }
     status
 }
 
 // Prints the heading and goes on. The longest argument that the system passes has 131,071 bytes.
-fn with_state(state: &mut [u64]) -> Status
+fn with_state(rt: &HostRuntime, state: &mut [u64]) -> Status
     requires { state_words ≤ length state.old }
 {
-    if !print_heading() {
+    if !print_heading(rt) {
         return Status::Failed;
     }
     let mut name = [0u8; 131072];
-    let length = os::arg(EVENTS, &mut name);
-    with_list(&name[..length], state)
+    let length = argument(rt, EVENTS, &mut name);
+    with_list(rt, &name[..length], state)
 }
 
-fn with_list(name: &[u8], state: &mut [u64]) -> Status
+fn with_list(rt: &HostRuntime, name: &[u8], state: &mut [u64]) -> Status
     requires { state_words ≤ length state.old }
 {
-    let file = open(name);
-    if file < 0 {
-        cannot_open(name, os::errno());
-        return Status::Failed;
+    match open(rt, name) {
+        Ok(mut file) => take_all(rt, &mut file, name, state),
+        Err(error) => {
+            cannot_open(name, errors::number(error));
+            Status::Failed
+        }
     }
-    let status = take_all(file, name, state);
-    libc::close(file);
-    status
 }
 
 // Takes the events to the end of the list. A loop has to end, and nothing says that a file does, so this one counts its turns down from a
 // number that no list uses up.
-fn take_all(file: i32, name: &[u8], state: &mut [u64]) -> Status
+fn take_all(rt: &HostRuntime, file: &mut impl Read, name: &[u8], state: &mut [u64]) -> Status
     requires { state_words ≤ length state.old }
 {
     let mut taken = Taken {
@@ -76,14 +76,14 @@ fn take_all(file: i32, name: &[u8], state: &mut [u64]) -> Status
         if !taken.more {
             return taken.status;
         }
-        taken = take_some(file, name, taken, state);
+        taken = take_some(rt, file, name, taken, state);
         turns -= 1;
     }
     Status::Failed
 }
 
 // Takes the events of one read.
-fn take_some(file: i32, name: &[u8], taken: Taken, state: &mut [u64]) -> Taken
+fn take_some(rt: &HostRuntime, file: &mut impl Read, name: &[u8], taken: Taken, state: &mut [u64]) -> Taken
     requires { state_words ≤ length state.old }
 {
     let mut classes = [0u32; MOST_A_READ];
@@ -92,7 +92,7 @@ fn take_some(file: i32, name: &[u8], taken: Taken, state: &mut [u64]) -> Taken
     let turn = read_some(file, start, &mut classes, &mut lengths);
     let scan = turn.scan;
     let count = events_of(scan.lines);
-    let status = take(&classes, &lengths, count, taken.events, state);
+    let status = take(rt, &classes, &lengths, count, taken.events, state);
     if let Status::Failed = status {
         return stopped(status);
     }

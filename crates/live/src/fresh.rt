@@ -12,26 +12,27 @@ pub const TABLE: usize = 2;
 
 pub const STATE: usize = 3;
 
-pub fn fresh() -> Status {
+pub fn fresh(rt: &HostRuntime) -> Status {
     let mut text = [0u8; HELD_BYTES];
-    let held = load_text(TABLE, &mut text);
+    let held = load_text(rt, TABLE, &mut text);
     if held.good {
-        return with_text(&text, held.size);
+        return with_text(rt, &text, held.size);
     }
     Status::Failed
 }
 
 // Reads the rows and goes on.
-fn with_text(text: &[u8], size: usize) -> Status {
+fn with_text(rt: &HostRuntime, text: &[u8], size: usize) -> Status {
     let mut identifiers = [0u32; HELD_ROWS];
     let mut parents = [0u32; HELD_ROWS];
     let mut shares = [0u32; HELD_ROWS];
     let read = csv_text::read_rows(text, size, &mut identifiers, &mut parents, &mut shares);
     let fault = read.fault;
     if fault.number != 0 {
-        return faulty(fault, text, size);
+        return faulty(rt, fault, text, size);
     }
     with_table(
+        rt,
         read.rows,
         first(&identifiers, read.rows),
         first(&parents, read.rows),
@@ -40,16 +41,17 @@ fn with_text(text: &[u8], size: usize) -> Status {
 }
 
 // A fault of the text.
-fn faulty(fault: Refusal, text: &[u8], size: usize) -> Status {
-    let written = print_answer(refusal(fault.number, fault.place, fault.second));
+fn faulty(rt: &HostRuntime, fault: Refusal, text: &[u8], size: usize) -> Status {
+    let written = print_answer(rt, refusal(fault.number, fault.place, fault.second));
     if written {
-        say_fault(TABLE, fault, text, size);
+        say_fault(rt, TABLE, fault, text, size);
     }
     refused(written)
 }
 
 // Makes the state and stores it. The count of rows is that of the file, of which the slices may have less.
 fn with_table<'a>(
+    rt: &HostRuntime,
     rows: u64,
     identifiers: &'a [u32],
     parents: &'a [u32],
@@ -58,24 +60,25 @@ fn with_table<'a>(
     let mut state = [0u64; STATE_WORDS];
     let answer = live_box::fresh(identifiers, parents, shares, &mut state);
     if answer.number != 0 {
-        return refuse(answer, rows, identifiers, parents, shares);
+        return refuse(rt, answer, rows, identifiers, parents, shares);
     }
-    if !store_state(STATE, &state) {
+    if !store_state(rt, STATE, &state) {
         return Status::Failed;
     }
-    done(print_answer(answer))
+    done(print_answer(rt, answer))
 }
 
 fn refuse<'a>(
+    rt: &HostRuntime,
     answer: LiveAnswer,
     rows: u64,
     identifiers: &'a [u32],
     parents: &'a [u32],
     shares: &'a [u32],
 ) -> Status {
-    let written = print_answer(answer);
+    let written = print_answer(rt, answer);
     if written {
-        say_table(answer, rows, identifiers, parents, shares);
+        say_table(rt, answer, rows, identifiers, parents, shares);
     }
     refused(written)
 }

@@ -12,7 +12,7 @@ mod states;
 mod taking;
 
 use check::same;
-use files::{Status, argument_is_input, complain, end_with};
+use files::{Status, argument, argument_count, argument_is_input, complain, end_with};
 
 // What a call asks for, by its first word.
 #[derive(Clone, Copy)]
@@ -23,19 +23,19 @@ enum Asked {
     Nothing,
 }
 
-fn main() {
-    end_with(called());
+fn main(rt: HostRuntime) {
+    end_with(called(&rt));
 }
 
 // Looks at the call and goes on.
-fn called() -> Status {
+fn called(rt: &HostRuntime) -> Status {
     let mut word = [0u8; 8];
-    let length = os::arg(1, &mut word);
-    let asked = asks(&word[..length], os::arg_count());
+    let length = argument(rt, 1, &mut word);
+    let asked = asks(&word[..length], argument_count(rt));
     match asked {
-        Asked::Fresh => with_files(fresh::STATE, asked),
-        Asked::Events => with_files(states::STATE, asked),
-        Asked::Report => with_files(states::STATE, asked),
+        Asked::Fresh => with_files(rt, fresh::STATE, asked),
+        Asked::Events => with_files(rt, states::STATE, asked),
+        Asked::Report => with_files(rt, states::STATE, asked),
         Asked::Nothing => complain(
             b"cannot read: give what to do and its files, live fresh TABLE STATE, live events STATE EVENTS or live report STATE\n",
         ),
@@ -69,16 +69,16 @@ fn two_files(word: &[u8]) -> Asked {
 }
 
 // Does what is asked for, of a state that an argument names.
-fn with_files(state: usize, asked: Asked) -> Status {
-    if argument_is_input(state) {
+fn with_files(rt: &HostRuntime, state: usize, asked: Asked) -> Status {
+    if argument_is_input(rt, state) {
         return complain(
             b"cannot read: the state is a file of its own and cannot be standard input; a file called - is ./-\n",
         );
     }
     match asked {
-        Asked::Fresh => fresh::fresh(),
-        Asked::Events => events::events(),
-        Asked::Report => report::report(),
+        Asked::Fresh => fresh::fresh(rt),
+        Asked::Events => events::events(rt),
+        Asked::Report => report::report(rt),
         Asked::Nothing => Status::Failed,
     }
 }

@@ -2,9 +2,8 @@
 use crate::events::{EVENTS, sum};
 use crate::fresh::TABLE;
 use crate::states::STATE;
-use files::{begin_refusal, hand_over};
+use files::{STDERR_FILENO, begin_refusal, hand_over};
 use input::Answer;
-use libc::STDERR_FILENO;
 use live_rules::{LiveAnswer, MOST_ACCEPTED, MOST_HELD};
 use output::put_text;
 use sentences::{SENTENCE_BYTES, fill, put_not_sending, put_wrong_event, table_sentence};
@@ -12,6 +11,7 @@ use words::{long, word};
 
 // Of a class table. The count of rows is that of the file.
 pub fn say_table<'a>(
+    rt: &HostRuntime,
     answer: LiveAnswer,
     rows: u64,
     identifiers: &'a [u32],
@@ -19,7 +19,7 @@ pub fn say_table<'a>(
     shares: &'a [u32],
 ) {
     let mut page = [0u8; SENTENCE_BYTES];
-    let used = begin_refusal(&mut page, answer.number, TABLE);
+    let used = begin_refusal(rt, &mut page, answer.number, TABLE);
     let refusal = Answer {
         number: answer.number,
         place: answer.place,
@@ -31,9 +31,9 @@ pub fn say_table<'a>(
 }
 
 // Of a state that is not sound.
-pub fn say_unsound() {
+pub fn say_unsound(rt: &HostRuntime) {
     let mut page = [0u8; SENTENCE_BYTES];
-    let used = begin_refusal(&mut page, 20, STATE);
+    let used = begin_refusal(rt, &mut page, 20, STATE);
     let used = put_text(
         &mut page,
         used,
@@ -44,6 +44,7 @@ pub fn say_unsound() {
 
 // Of those of the first `count` events that these numbers refuse, after so many of earlier reads; the line itself has identifier `root`.
 pub fn say_events<'a>(
+    rt: &HostRuntime,
     numbers: &'a [u32],
     classes: &'a [u32],
     lengths: &'a [u32],
@@ -54,6 +55,7 @@ pub fn say_events<'a>(
     let mut i = 0;
     while i < count {
         say_event(
+            rt,
             word(numbers, i),
             line_of(before, i),
             word(classes, i),
@@ -69,12 +71,12 @@ fn line_of(before: u64, i: u32) -> u64 {
     sum(before, long(i) + 2)
 }
 
-fn say_event(number: u32, line: u64, class: u32, length: u32, root: u64) {
+fn say_event(rt: &HostRuntime, number: u32, line: u64, class: u32, length: u32, root: u64) {
     if number == 0 {
         return;
     }
     let mut page = [0u8; SENTENCE_BYTES];
-    let used = begin_refusal(&mut page, number, EVENTS);
+    let used = begin_refusal(rt, &mut page, number, EVENTS);
     let used = fill(&mut page, used, b"line #", &[line]);
     let used = put_event(&mut page, used, number, class, length, root);
     hand_over(STDERR_FILENO, &page, used);

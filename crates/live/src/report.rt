@@ -13,19 +13,19 @@ use storing::load_words;
 // Room for the heading and for every row (`Room: report-room` of the crate `forms`).
 const REPORT_BYTES: usize = 48 + 149 * MOST_ROWS;
 
-pub fn report() -> Status {
+pub fn report(rt: &HostRuntime) -> Status {
     let mut state = [0u64; STATE_WORDS];
     let mut report = [0u64; REPORT_WORDS * MOST_ROWS];
     let mut lags = [0i64; MOST_ROWS];
-    let status = load_sound(&mut state, &mut report, &mut lags);
+    let status = load_sound(rt, &mut state, &mut report, &mut lags);
     if let Status::Done = status {
-        return print(&state, &report, &lags);
+        return print(rt, &state, &report, &lags);
     }
     status
 }
 
 // Prints the report of a sound state.
-fn print(state: &[u64], report: &[u64], lags: &[i64]) -> Status
+fn print(rt: &HostRuntime, state: &[u64], report: &[u64], lags: &[i64]) -> Status
     requires { state_words ≤ length state.now }
 {
     let rows = rows_of(state[ROWS_WORD]);
@@ -33,7 +33,7 @@ fn print(state: &[u64], report: &[u64], lags: &[i64]) -> Status
     let identifiers = read.list;
     let mut page = [0u8; REPORT_BYTES];
     let used = lines::put_report(&mut page, 0, first(&identifiers, rows as u64), report, lags);
-    done(files::print(&page, used))
+    done(files::print(rt, &page, used))
 }
 
 // The rows in use of a sound state.

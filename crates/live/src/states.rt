@@ -11,30 +11,30 @@ use state_files::{Reading, load_state};
 pub const STATE: usize = 2;
 
 // Reads the state and makes its report, by which an unsound one is told. Done where there is one.
-pub fn load_sound(state: &mut [u64], report: &mut [u64], lags: &mut [i64]) -> Status
+pub fn load_sound(rt: &HostRuntime, state: &mut [u64], report: &mut [u64], lags: &mut [i64]) -> Status
     requires { state_words ≤ length state.old }
 {
-    let reading = load_state(STATE, state);
+    let reading = load_state(rt, STATE, state);
     match reading {
-        Reading::Whole => tested(state, report, lags),
-        Reading::Otherwise => unsound(),
+        Reading::Whole => tested(rt, state, report, lags),
+        Reading::Otherwise => unsound(rt),
         Reading::Failed => Status::Failed,
     }
 }
 
-fn tested(state: &[u64], report: &mut [u64], lags: &mut [i64]) -> Status {
+fn tested(rt: &HostRuntime, state: &[u64], report: &mut [u64], lags: &mut [i64]) -> Status {
     let answer = live_box::report(state, report, lags);
     if answer.number == 0 {
         return Status::Done;
     }
-    unsound()
+    unsound(rt)
 }
 
 // 20.
-fn unsound() -> Status {
-    let written = print_answer(refusal(20, 0, 0));
+fn unsound(rt: &HostRuntime) -> Status {
+    let written = print_answer(rt, refusal(20, 0, 0));
     if written {
-        say_unsound();
+        say_unsound(rt);
     }
     refused(written)
 }

@@ -26,6 +26,7 @@ struct Put {
 
 // The first `count` events, after so many of earlier reads. An answer is printed only once its event is in the file.
 pub fn take<'a>(
+    rt: &HostRuntime,
     classes: &'a [u32],
     lengths: &'a [u32],
     count: u32,
@@ -37,16 +38,17 @@ pub fn take<'a>(
     let mut page = blank();
     let mut numbers = [0u32; MOST_A_READ];
     let put = take_each(classes, lengths, count, state, &mut page, &mut numbers);
-    if !stored(put.taken, state) {
+    if !stored(rt, put.taken, state) {
         return Status::Failed;
     }
-    if !files::print(&page, put.used) {
+    if !files::print(rt, &page, put.used) {
         return Status::Failed;
     }
     if !put.refused {
         return Status::Done;
     }
     say_events(
+        rt,
         &numbers,
         classes,
         lengths,
@@ -121,11 +123,11 @@ fn take_one(
 }
 
 // Stores the state where it has changed, and answers whether the file holds it.
-fn stored(changed: bool, state: &[u64]) -> bool
+fn stored(rt: &HostRuntime, changed: bool, state: &[u64]) -> bool
     requires { state_words ≤ length state.now }
 {
     if changed {
-        return store_state(STATE, state);
+        return store_state(rt, STATE, state);
     }
     true
 }

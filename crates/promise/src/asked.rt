@@ -2,9 +2,8 @@
 ghost use Rattle.std.specs.Prelude.{◌≡◌};
 ghost use Rattle.promise.specs.Arguments as arguments;
 
-use files::{Status, hand_over};
+use files::{STDERR_FILENO, Status, hand_over};
 use input::{LEAST_BYTES, MOST_BYTES};
-use libc::STDERR_FILENO;
 use output::{put_byte, put_named, put_text};
 use sentences::put_packet_bytes;
 use text::Field;

@@ -13,6 +13,7 @@ const SHEET_BYTES: usize = 2048 * MOST_ROWS;
 
 // Prints the sheet of each sending class, in row order, and answers how that ended.
 pub fn print<'a>(
+    rt: &HostRuntime,
     largest: u32,
     own: u32,
     packets: u32,
@@ -34,7 +35,7 @@ pub fn print<'a>(
         shares,
         senders,
     );
-    if files::print(&page, used) {
+    if files::print(rt, &page, used) {
         Status::Done
     } else {
         Status::Failed

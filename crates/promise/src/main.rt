@@ -9,30 +9,29 @@ mod lines;
 
 use asked::Asked;
 use files::{
-    Status, begin_refusal, complain, end_with, first, hand_over, load_table, print_answer,
+    STDERR_FILENO, Status, argument_count, begin_refusal, complain, end_with, first, hand_over, load_table, print_answer,
 };
 use input::{Answer, MOST_EVENTS, Refusal};
-use libc::STDERR_FILENO;
 use sentences::{HELD_ROWS, SENTENCE_BYTES};
 use text::Field;
 
-fn main() {
-    end_with(called());
+fn main(rt: HostRuntime) {
+    end_with(called(&rt));
 }
 
 // Looks at the call and goes on.
-fn called() -> Status {
-    let count = os::arg_count();
+fn called(rt: &HostRuntime) -> Status {
+    let count = argument_count(rt);
     if count < 3 {
         return usage();
     }
     if 5 < count {
         return usage();
     }
-    let largest = argument(2);
-    let own = if 3 < count { argument(3) } else { largest };
+    let largest = argument(rt, 2);
+    let own = if 3 < count { argument(rt, 3) } else { largest };
     let packets = if 4 < count {
-        argument(4)
+        argument(rt, 4)
     } else {
         Field::Number(MOST_EVENTS as u32)
     };
@@ -43,7 +42,7 @@ fn called() -> Status {
         packets,
     } = asked
     {
-        return with_numbers(largest, own, packets);
+        return with_numbers(rt, largest, own, packets);
     }
     asked::complain(asked)
 }
@@ -55,21 +54,22 @@ fn usage() -> Status {
 }
 
 // An argument as a number. The longest that the system passes has 131,071 bytes.
-fn argument(place: usize) -> Field {
+fn argument(rt: &HostRuntime, place: usize) -> Field {
     let mut word = [0u8; 131072];
-    let length = os::arg(place, &mut word);
+    let length = files::argument(rt, place, &mut word);
     text::number(&word[..length])
 }
 
 // Reads the table and goes on.
-fn with_numbers(largest: u32, own: u32, packets: u32) -> Status {
+fn with_numbers(rt: &HostRuntime, largest: u32, own: u32, packets: u32) -> Status {
     let mut identifiers = [0u32; HELD_ROWS];
     let mut parents = [0u32; HELD_ROWS];
     let mut shares = [0u32; HELD_ROWS];
-    let table = load_table(1, &mut identifiers, &mut parents, &mut shares);
+    let table = load_table(rt, 1, &mut identifiers, &mut parents, &mut shares);
     let status = table.status;
     if let Status::Done = status {
         return with_table(
+            rt,
             largest,
             own,
             packets,
@@ -85,6 +85,7 @@ fn with_numbers(largest: u32, own: u32, packets: u32) -> Status {
 // Checks the table, and prints the sheet or why there is none. The count of rows is that of the file, of which the slices may have
 // less.
 fn with_table<'a>(
+    rt: &HostRuntime,
     largest: u32,
     own: u32,
     packets: u32,
@@ -96,13 +97,14 @@ fn with_table<'a>(
     let reading = tables::read_table(identifiers, parents, shares);
     let refusal = reading.refusal;
     if refusal.number != 0 {
-        return refused(refusal, rows, identifiers, parents, shares);
+        return refused(rt, refusal, rows, identifiers, parents, shares);
     }
     let above = reading.parents;
     let depths = reading.depths;
     let parts = reading.shares;
     let senders = reading.senders;
     lines::print(
+        rt,
         largest,
         own,
         packets,
@@ -116,6 +118,7 @@ fn with_table<'a>(
 
 // The answer of a run with this table and, once that is written, the refusal as a sentence to standard error.
 fn refused<'a>(
+    rt: &HostRuntime,
     refusal: Refusal,
     rows: u64,
     identifiers: &'a [u32],
@@ -128,11 +131,11 @@ fn refused<'a>(
         second: refusal.second,
         count: 0,
     };
-    if !print_answer(answer) {
+    if !print_answer(rt, answer) {
         return Status::Failed;
     }
     let mut page = [0u8; SENTENCE_BYTES];
-    let used = begin_refusal(&mut page, answer.number, 1);
+    let used = begin_refusal(rt, &mut page, answer.number, 1);
     let used = sentences::table_sentence(
         &mut page,
         used,

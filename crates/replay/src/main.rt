@@ -6,11 +6,10 @@ ghost use Rattle.std.specs.Prelude.{◌≡◌, length};
 
 use choosing::Way;
 use files::{
-    NO_FILE, Status, begin_refusal, complain, end_with, first, hand_over, input_twice, load,
+    NO_FILE, STDERR_FILENO, Status, argument_count, begin_refusal, complain, end_with, first, hand_over, input_twice, load,
     load_table,
 };
 use input::{Answer, MOST_EVENTS, REPORT_WORDS};
-use libc::STDERR_FILENO;
 use sentences::{HELD_ROWS, SENTENCE_BYTES};
 
 // One more than a run takes, so that it refuses a longer list.
@@ -19,32 +18,33 @@ const HELD_EVENTS: usize = MOST_EVENTS + 1;
 // Room for the text of any run of so many events and rows (`Room: run_room` of the crate `forms`).
 const RUN_BYTES: usize = 1480252;
 
-fn main() {
-    end_with(called());
+fn main(rt: HostRuntime) {
+    end_with(called(&rt));
 }
 
 // Looks at the call and goes on.
-fn called() -> Status {
-    if os::arg_count() != 3 {
+fn called(rt: &HostRuntime) -> Status {
+    if argument_count(rt) != 3 {
         return complain(
             b"cannot read: give a class table and an event list, replay TABLE EVENTS\n",
         );
     }
-    if input_twice() {
+    if input_twice(rt) {
         return files::twice();
     }
-    with_arguments()
+    with_arguments(rt)
 }
 
 // Reads the table and goes on.
-fn with_arguments() -> Status {
+fn with_arguments(rt: &HostRuntime) -> Status {
     let mut identifiers = [0u32; HELD_ROWS];
     let mut parents = [0u32; HELD_ROWS];
     let mut shares = [0u32; HELD_ROWS];
-    let table = load_table(1, &mut identifiers, &mut parents, &mut shares);
+    let table = load_table(rt, 1, &mut identifiers, &mut parents, &mut shares);
     let status = table.status;
     if let Status::Done = status {
         return with_table(
+            rt,
             table.rows,
             first(&identifiers, table.rows),
             first(&parents, table.rows),
@@ -56,6 +56,7 @@ fn with_arguments() -> Status {
 
 // Reads the events and goes on.
 fn with_table<'a>(
+    rt: &HostRuntime,
     rows: u64,
     identifiers: &'a [u32],
     parents: &'a [u32],
@@ -63,10 +64,11 @@ fn with_table<'a>(
 ) -> Status {
     let mut classes = [0u32; HELD_EVENTS];
     let mut lengths = [0u32; HELD_EVENTS];
-    let events = load(2, &mut classes, &mut lengths);
+    let events = load(rt, 2, &mut classes, &mut lengths);
     let status = events.status;
     if let Status::Done = status {
         return replay(
+            rt,
             rows,
             events.rows,
             identifiers,
@@ -81,6 +83,7 @@ fn with_table<'a>(
 
 // Runs the events and prints what came of it. The counts are those of the files, of which the slices may have less.
 fn replay<'a>(
+    rt: &HostRuntime,
     rows: u64,
     events: u64,
     identifiers: &'a [u32],
@@ -105,10 +108,11 @@ fn replay<'a>(
         &mut lags,
         &mut working,
     );
-    if !print(answer, identifiers, &order, &report, &lags) {
+    if !print(rt, answer, identifiers, &order, &report, &lags) {
         return Status::Failed;
     }
     explain(
+        rt,
         answer,
         rows,
         events,
@@ -122,6 +126,7 @@ fn replay<'a>(
 
 // Prints the answer and, of a done run, the results, and answers whether all of it was written.
 fn print<'a>(
+    rt: &HostRuntime,
     answer: Answer,
     identifiers: &'a [u32],
     order: &'a [u32],
@@ -130,7 +135,7 @@ fn print<'a>(
 ) -> bool {
     let mut page = blank();
     let used = lines::put_run(&mut page, 0, answer, identifiers, order, report, lags);
-    files::print(&page, used)
+    files::print(rt, &page, used)
 }
 
 // A page with nothing on it. Its length is all that lending it needs, and a proof that looks at more would count all its bytes.
@@ -142,6 +147,7 @@ fn blank() -> [u8; RUN_BYTES]
 
 // A refusal as a sentence, to standard error; of a done run, nothing. Answers how it ended.
 fn explain<'a>(
+    rt: &HostRuntime,
     answer: Answer,
     rows: u64,
     events: u64,
@@ -155,7 +161,7 @@ fn explain<'a>(
         return Status::Done;
     }
     let mut page = [0u8; SENTENCE_BYTES];
-    let used = begin_refusal(&mut page, answer.number, file_of(answer.number));
+    let used = begin_refusal(rt, &mut page, answer.number, file_of(answer.number));
     let used = sentences::sentence(
         &mut page,
         used,

@@ -4,30 +4,34 @@ ghost use Rattle.live_rules.specs.Layout.{state_words};
 
 use crate::unwritable::cannot_store;
 use crate::{STATE_BYTES, Step};
-use files::first_bytes;
+use files::{argument, errors, first_bytes, text_of};
 use live_rules::STATE_WORDS;
 use output::put_text;
+use std::fs::OpenFile;
+use std::io::Write;
+use std::rt::{Env, Files};
+use std::{fs, io};
 
 // Room for the longest name that the system passes, and for what comes behind it.
 const BESIDE_BYTES: usize = 131072 + 4;
 
 // Puts this state into the file that an argument names, in the place of what it holds; where that fails, it stays as it was, and that
 // is said. Answers whether it was done.
-pub fn store_state(argument: usize, state: &[u64]) -> bool
+pub fn store_state(rt: &(impl Env + Files), place: usize, state: &[u64]) -> bool
     requires { state_words ≤ length state.now }
 {
     let mut bytes = [0u8; STATE_BYTES];
     octets::write_longs(state, STATE_WORDS, &mut bytes);
     let mut name = [0u8; 131072];
-    let length = os::arg(argument, &mut name);
-    store_named(&name[..length], &bytes)
+    let length = argument(rt, place, &mut name);
+    store_named(rt, &name[..length], &bytes)
 }
 
-fn store_named(name: &[u8], bytes: &[u8]) -> bool {
+fn store_named(rt: &impl Files, name: &[u8], bytes: &[u8]) -> bool {
     let mut page = [0u8; BESIDE_BYTES];
     let used = put_text(&mut page, 0, name);
     let used = put_text(&mut page, used, b".new");
-    let step = replace(name, first_bytes(&page, used), bytes);
+    let step = step_of(replace(rt, name, first_bytes(&page, used), bytes));
     if step.failed {
         cannot_store(name, step.error);
     }
@@ -35,53 +39,45 @@ fn store_named(name: &[u8], bytes: &[u8]) -> bool {
 }
 
 // By the file beside it, which is emptied where it is there already, and removed where a step fails.
-fn replace(name: &[u8], beside: &[u8], bytes: &[u8]) -> Step {
-    let file = os::open_overwrite(beside);
-    if file < 0 {
-        return failed();
-    }
-    let step = write_and_rename(file, name, beside, bytes);
-    if step.failed {
-        os::unlink(beside);
+fn replace(rt: &impl Files, name: &[u8], beside: &[u8], bytes: &[u8]) -> io::Result<()> {
+    let name = text_of(name)?;
+    let beside = text_of(beside)?;
+    let file = fs::create(rt, beside)?;
+    let step = write_and_rename(rt, file, name, beside, bytes);
+    if step.is_err() {
+        let _ = fs::remove_file(rt, beside);
     }
     step
 }
 
-fn write_and_rename(file: i32, name: &[u8], beside: &[u8], bytes: &[u8]) -> Step {
-    let written = write_out(file, bytes);
-    let closed = step_of(libc::close(file));
-    if written.failed {
-        return written;
-    }
-    if closed.failed {
-        return closed;
-    }
-    step_of(os::rename(beside, name))
+fn write_and_rename<R: Files>(
+    rt: &R,
+    file: R::File,
+    name: &str,
+    beside: &str,
+    bytes: &[u8],
+) -> io::Result<()> {
+    write_out(file, bytes)?;
+    fs::rename(rt, beside, name)
 }
 
-// Writes the bytes and waits until they are on the disk.
-fn write_out(file: i32, bytes: &[u8]) -> Step {
-    if !io::write_all(file, bytes) {
-        return failed();
-    }
-    step_of(libc::fsync(file))
+// Writes the bytes, waits until they are on the disk, and closes the file.
+fn write_out<F: OpenFile + Write + Drop>(file: F, bytes: &[u8]) -> io::Result<()> {
+    let mut file = file;
+    file.write_all(bytes)?;
+    file.sync_all()
 }
 
-// A step by what the system answers, below 0 where it failed.
-fn step_of(answer: i32) -> Step {
-    if answer < 0 {
-        return failed();
-    }
-    Step {
-        failed: false,
-        error: 0,
-    }
-}
-
-// A step that failed just now.
-fn failed() -> Step {
-    Step {
-        failed: true,
-        error: os::errno(),
+// A step by what the system answers.
+fn step_of(answer: io::Result<()>) -> Step {
+    match answer {
+        Ok(()) => Step {
+            failed: false,
+            error: 0,
+        },
+        Err(error) => Step {
+            failed: true,
+            error: errors::number(error),
+        },
     }
 }

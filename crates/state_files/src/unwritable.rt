@@ -3,15 +3,12 @@ ghost use Rattle.output.specs.Pages.{Puts};
 ghost use Rattle.state_files.specs.Sentences as sentences;
 
 use crate::Unstored;
-use files::{hand_over, unreadable};
-use libc::STDERR_FILENO;
+use files::errors::{EACCES, EDQUOT, ENOENT, ENOSPC, ENOTDIR, EPERM, EROFS};
+use files::{STDERR_FILENO, hand_over, unreadable};
 use output::{put_byte, put_text};
 
 // Room for the longest name that the system passes, and for the words around it.
 const PAGE: usize = 131072 + 512;
-
-// Linux's error where a user's part of the disk is used up, which the crate libc does not name.
-const EDQUOT: i32 = 122;
 
 pub fn cannot_store(name: &[u8], error: i32) {
     let mut page = [0u8; PAGE];
@@ -22,9 +19,9 @@ pub fn cannot_store(name: &[u8], error: i32) {
 // What the system's error means, of a file that is written and renamed.
 fn why(error: i32) -> Unstored {
     match error {
-        libc::ENOSPC | EDQUOT => Unstored::Full,
-        libc::EACCES | libc::EPERM | libc::EROFS => Unstored::Forbidden,
-        libc::ENOENT | libc::ENOTDIR => Unstored::NoFolder,
+        ENOSPC | EDQUOT => Unstored::Full,
+        EACCES | EPERM | EROFS => Unstored::Forbidden,
+        ENOENT | ENOTDIR => Unstored::NoFolder,
         _ => Unstored::Other(unreadable::why(error)),
     }
 }

@@ -4,7 +4,7 @@
 
 mod refused;
 
-use files::{Status, complain, end_with, first, load_table};
+use files::{Status, argument_count, complain, end_with, first, load_table};
 use input::MOST_ROWS;
 use refused::{put_answers, tell_all};
 use sentences::HELD_ROWS;
@@ -15,22 +15,23 @@ const ANSWERS_BYTES: usize = 64 * (2 * MOST_ROWS + 1);
 // Room for the tree: no line has more than 56 bytes.
 const TREE_BYTES: usize = 64 * (MOST_ROWS + 1);
 
-fn main() {
-    end_with(called());
+fn main(rt: HostRuntime) {
+    end_with(called(&rt));
 }
 
 // Looks at the call and goes on.
-fn called() -> Status {
-    if os::arg_count() != 2 {
+fn called(rt: &HostRuntime) -> Status {
+    if argument_count(rt) != 2 {
         return complain(b"cannot read: give a class table, table TABLE\n");
     }
     let mut identifiers = [0u32; HELD_ROWS];
     let mut parents = [0u32; HELD_ROWS];
     let mut shares = [0u32; HELD_ROWS];
-    let table = load_table(1, &mut identifiers, &mut parents, &mut shares);
+    let table = load_table(rt, 1, &mut identifiers, &mut parents, &mut shares);
     let status = table.status;
     if let Status::Done = status {
         return with_table(
+            rt,
             table.rows,
             first(&identifiers, table.rows),
             first(&parents, table.rows),
@@ -42,6 +43,7 @@ fn called() -> Status {
 
 // Judges the table and goes on. The count of rows is that of the file, of which the slices may have less.
 fn with_table<'a>(
+    rt: &HostRuntime,
     rows: u64,
     identifiers: &'a [u32],
     parents: &'a [u32],
@@ -57,6 +59,7 @@ fn with_table<'a>(
     let depths = judged.depths;
     let parts = judged.shares;
     give_or_draw(
+        rt,
         &first,
         &numbers,
         &seconds,
@@ -73,6 +76,7 @@ fn with_table<'a>(
 
 // Gives all that is refused: of the table before its rows are looked at, of the rows, and of the sums. Where that is nothing, draws the tree.
 fn give_or_draw<'a>(
+    rt: &HostRuntime,
     first: &'a [u32],
     numbers: &'a [u32],
     seconds: &'a [u32],
@@ -91,18 +95,19 @@ fn give_or_draw<'a>(
     let used = put_answers(&mut page, used, numbers, seconds);
     let used = put_answers(&mut page, used, sums, &none);
     if used == 0 {
-        return draw(identifiers, above, depths, parts);
+        return draw(rt, identifiers, above, depths, parts);
     }
-    if !files::print(&page, used) {
+    if !files::print(rt, &page, used) {
         return Status::Failed;
     }
-    tell_all(first, &none, rows, identifiers, parents, shares);
-    tell_all(numbers, seconds, rows, identifiers, parents, shares);
-    tell_all(sums, &none, rows, identifiers, parents, shares);
+    tell_all(rt, first, &none, rows, identifiers, parents, shares);
+    tell_all(rt, numbers, seconds, rows, identifiers, parents, shares);
+    tell_all(rt, sums, &none, rows, identifiers, parents, shares);
     Status::Refused
 }
 
 fn draw<'a>(
+    rt: &HostRuntime,
     identifiers: &'a [u32],
     parents: &'a [u32],
     depths: &'a [u32],
@@ -117,7 +122,7 @@ fn draw<'a>(
         shares,
         rows_of(identifiers),
     );
-    if files::print(&page, used) {
+    if files::print(rt, &page, used) {
         Status::Done
     } else {
         Status::Failed

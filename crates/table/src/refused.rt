@@ -1,7 +1,6 @@
 // All refusals of a table: their answers, and a sentence for each.
-use files::{Status, begin_refusal, hand_over};
+use files::{STDERR_FILENO, Status, begin_refusal, hand_over};
 use input::{Answer, MOST_ROWS};
-use libc::STDERR_FILENO;
 use lines::put_end;
 use output::{put_then, put_word};
 use sentences::SENTENCE_BYTES;
@@ -44,6 +43,7 @@ fn answer_of(number: u32, place: u32, second: u32) -> Answer {
 
 // Says what each of these numbers names, to standard error.
 pub fn tell_all<'a>(
+    rt: &HostRuntime,
     numbers: &'a [u32],
     seconds: &'a [u32],
     rows: u64,
@@ -54,6 +54,7 @@ pub fn tell_all<'a>(
     let mut row = 0;
     while row < MOST_ROWS as u32 {
         tell(
+            rt,
             answer_of(word(numbers, row), row, word(seconds, row)),
             rows,
             identifiers,
@@ -66,6 +67,7 @@ pub fn tell_all<'a>(
 
 // Of a refusal its sentence.
 fn tell<'a>(
+    rt: &HostRuntime,
     answer: Answer,
     rows: u64,
     identifiers: &'a [u32],
@@ -76,7 +78,7 @@ fn tell<'a>(
         return;
     }
     let mut page = [0u8; SENTENCE_BYTES];
-    let used = begin_refusal(&mut page, answer.number, 1);
+    let used = begin_refusal(rt, &mut page, answer.number, 1);
     let used = sentences::table_sentence(
         &mut page,
         used,
