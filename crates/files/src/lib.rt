@@ -2,22 +2,22 @@
 #![tactic(auto)]
 
 mod arguments;
+mod class_tables;
 mod ending;
 pub mod errors;
 mod handing;
 mod opening;
 mod reading;
-mod tables;
 pub mod unreadable;
 mod whole;
 mod writing;
 
 pub use arguments::{argument, argument_count};
+pub use class_tables::{first_bytes, load_table, say_fault};
 pub use ending::{NO_FILE, STDERR_FILENO, begin_refusal, complain, end_with, refused};
 pub use handing::{hand_over, print, print_answer};
 pub use opening::{Opened, argument_is_input, input_twice, open, text_of, twice};
 pub use reading::{first, judged, keep, load, read_some};
-pub use tables::{first_bytes, load_table, say_fault};
 pub use whole::{load_capture, load_text};
 
 // How a program ends: it is done, what it was given is refused, or it could not read, write or understand the call.

@@ -4,17 +4,21 @@ ghost use Rattle.text.specs.Reading.{unread};
 ghost use Rattle.files.specs.Columns as columns;
 
 use crate::arguments::argument;
-use crate::errors;
 use crate::opening::open;
 use crate::unreadable::{cannot_open, cannot_read};
-use crate::{Loaded, Status, Turn};
+use crate::{Loaded, Status, Turn, errors};
 use std::io::Read;
 use std::rt::{Env, Files};
 use text::{Found, Scan};
 
 // Reads the file that an argument names, and says what is wrong with it if something is. The longest argument that the system
 // passes has 131,071 bytes. Lines past the end of the columns are counted and not kept.
-pub fn load(rt: &(impl Env + Files + Input), place: usize, first: &mut [u32], second: &mut [u32]) -> Loaded
+pub fn load(
+    rt: &(impl Env + Files + Input),
+    place: usize,
+    first: &mut [u32],
+    second: &mut [u32],
+) -> Loaded
     ensures { columns.Loads first.old second.old first.new second.new result }
 {
     let mut name = [0u8; 131072];
@@ -22,7 +26,12 @@ pub fn load(rt: &(impl Env + Files + Input), place: usize, first: &mut [u32], se
     load_named(rt, &name[..length], first, second)
 }
 
-fn load_named(rt: &(impl Files + Input), name: &[u8], first: &mut [u32], second: &mut [u32]) -> Loaded
+fn load_named(
+    rt: &(impl Files + Input),
+    name: &[u8],
+    first: &mut [u32],
+    second: &mut [u32],
+) -> Loaded
     ensures { columns.Loads first.old second.old first.new second.new result }
 {
     let end = read_file(rt, name, first, second);

@@ -3,10 +3,9 @@ ghost use Rattle.files.specs.Lent.{Holds, HoldsAll, Gives};
 ghost use Rattle.std.specs.Prelude.{suc, ◌-◌, ◌^◌, ◌<◌, ◌≤◌, length};
 
 use crate::arguments::argument;
-use crate::errors;
 use crate::opening::open;
 use crate::unreadable::{cannot_open, too_long};
-use crate::{Held, Part};
+use crate::{Held, Part, errors};
 use std::io::Read;
 use std::rt::{Env, Files};
 
