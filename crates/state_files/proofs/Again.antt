@@ -1,15 +1,15 @@
 -- What reading leaves of a state's words; a state that was stored is read again.
 -- Assumes nothing.
 use Prim.Native.Nat.{ℕ, ◌*◌, ◌^◌}
-use mathlib.Core.Path.{◌≡◌, refl, ◌∙◌}
+use mathlib.Core.Path.{◌≡◌, refl}
 use mathlib.Core.List.{List, append-nil}
 use native.Mathlib.Omega.{arith}
-use lib.ListN.{length, drop, replicate, length-replicate}
+use lib.ListN.{length, replicate, length-replicate}
 use lib.Seq.{drop-length}
 use Rattle.rules.specs.Outcome.{over}
 use Rattle.live_rules.specs.Layout.{state_words}
 use Rattle.octets.specs.Octets.{bytes_of, words_of, All-below}
-use Rattle.octets.proofs.Laws.{length_bytes, read_written}
+use Rattle.octets.proofs.Laws.{read_written}
 use Rattle.state_files.specs.declared.Reading.TheVariants.{Whole, Otherwise, Failed}
 use Rattle.state_files.specs.Loaded.{words_read, LoadsState}
 
