@@ -5,11 +5,12 @@
 #![tactic(auto)]
 
 mod asked;
-mod lines;
+mod printing;
 
 use asked::Asked;
 use files::{
-    STDERR_FILENO, Status, argument_count, begin_refusal, complain, end_with, first, hand_over, load_table, print_answer,
+    STDERR_FILENO, Status, argument_count, begin_refusal, complain, end_with, first, hand_over,
+    load_table, print_answer,
 };
 use input::{Answer, MOST_EVENTS, Refusal};
 use sentences::{HELD_ROWS, SENTENCE_BYTES};
@@ -103,7 +104,7 @@ fn with_table<'a>(
     let depths = reading.depths;
     let parts = reading.shares;
     let senders = reading.senders;
-    lines::print(
+    printing::print(
         rt,
         largest,
         own,

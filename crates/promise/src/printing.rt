@@ -1,5 +1,5 @@
 // The sheet as text.
-ghost use Rattle.std.specs.Prelude.{◌≡◌, ◌*◌};
+ghost use Rattle.std.specs.Prelude.{◌≡◌, ◌*◌, length};
 ghost use Rattle.input.specs.Limits.{packets_a_step};
 
 use files::Status;
@@ -23,7 +23,7 @@ pub fn print<'a>(
     shares: &'a [u32],
     senders: &'a RowMarks,
 ) -> Status {
-    let mut page = [0u8; SHEET_BYTES];
+    let mut page = blank();
     let used = put_sheet(
         &mut page,
         largest,
@@ -40,6 +40,13 @@ pub fn print<'a>(
     } else {
         Status::Failed
     }
+}
+
+// A page with nothing on it. Its length is all that lending it needs, and a proof that looks at more would count all its bytes.
+fn blank() -> [u8; SHEET_BYTES]
+    ensures { 524288 ≡ length result }
+{
+    [0; SHEET_BYTES]
 }
 
 fn put_sheet<'a>(
