@@ -6,8 +6,8 @@ ghost use Rattle.std.specs.Prelude.{◌≡◌, length};
 
 use choosing::Way;
 use files::{
-    NO_FILE, STDERR_FILENO, Status, argument_count, begin_refusal, complain, end_with, first, hand_over, input_twice, load,
-    load_table,
+    NO_FILE, STDERR_FILENO, Status, argument_count, begin_refusal, complain, end_with, first,
+    hand_over, input_twice, load, load_table,
 };
 use input::{Answer, MOST_EVENTS, REPORT_WORDS};
 use sentences::{HELD_ROWS, SENTENCE_BYTES};
