@@ -83,7 +83,13 @@ fn take_all(rt: &HostRuntime, file: &mut impl Read, name: &[u8], state: &mut [u6
 }
 
 // Takes the events of one read.
-fn take_some(rt: &HostRuntime, file: &mut impl Read, name: &[u8], taken: Taken, state: &mut [u64]) -> Taken
+fn take_some(
+    rt: &HostRuntime,
+    file: &mut impl Read,
+    name: &[u8],
+    taken: Taken,
+    state: &mut [u64],
+) -> Taken
     requires { state_words ≤ length state.old }
 {
     let mut classes = [0u32; MOST_A_READ];

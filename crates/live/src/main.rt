@@ -7,7 +7,7 @@ mod answers;
 mod events;
 mod fresh;
 mod refusals;
-mod report;
+mod reporting;
 mod states;
 mod taking;
 
@@ -78,7 +78,7 @@ fn with_files(rt: &HostRuntime, state: usize, asked: Asked) -> Status {
     match asked {
         Asked::Fresh => fresh::fresh(rt),
         Asked::Events => events::events(rt),
-        Asked::Report => report::report(rt),
+        Asked::Report => reporting::report(rt),
         Asked::Nothing => Status::Failed,
     }
 }

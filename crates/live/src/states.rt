@@ -11,7 +11,12 @@ use state_files::{Reading, load_state};
 pub const STATE: usize = 2;
 
 // Reads the state and makes its report, by which an unsound one is told. Done where there is one.
-pub fn load_sound(rt: &HostRuntime, state: &mut [u64], report: &mut [u64], lags: &mut [i64]) -> Status
+pub fn load_sound(
+    rt: &HostRuntime,
+    state: &mut [u64],
+    report: &mut [u64],
+    lags: &mut [i64],
+) -> Status
     requires { state_words ≤ length state.old }
 {
     let reading = load_state(rt, STATE, state);
