@@ -16,7 +16,9 @@ ghost use Rattle.pcap.specs.Lists.{Stamped};
 use asked::argument;
 use captures::MOST_RECORDS;
 use choosing::Way;
-use files::{Status, argument_count, complain, end_with, first, input_twice, load_capture, load_table};
+use files::{
+    Status, argument_count, complain, end_with, first, input_twice, load_capture, load_table,
+};
 use input::{Answer, MOST_EVENTS, REPORT_WORDS};
 use pcap::Sorting;
 use reading::read_records;

@@ -3,11 +3,7 @@
 use Prim.Native.Nat.{ℕ}
 use mathlib.Core.Path.{sym}
 use lib.ListN.{length-replicate}
-use Rattle.capture.proofs.blank.Statement.{statement}
-use Rattle.capture.proofs.blank.Tie as tie
+use Rattle.capture.proofs.blank.Goals as goal
 
-returns : tie.Need-returns
+pub returns : goal.returns
 returns c = sym (length-replicate {A = ℕ} 4194304 0)
-
-pub blank_spec : {M : Type 1} → statement M
-blank_spec = tie.close (tie.spec returns)
