@@ -60,5 +60,4 @@ pub returns : goal.returns
 returns c =
     let lent : LentBytes = lent_bytes c.args.identifiers.now c.args.parents.now c.args.shares.now c.args.classes.now c.args.lengths.now
     c.args.order.now c.args.report.now c.args.lags.now c.args.working.now c.args.answer.now in
-    let none_spare : spare_of lent ≡ 0 = rw c.spare-over.ensures at c.if-over-ne0.false in
-    c.run_written.ensures ∙ whole_words lent none_spare c.if-answer-ne16.false
+    let none_spare : spare_of lent ≡ 0 = rw c.spare-over.ensures at c.if-over-ne0.false in c.run_written.ensures ∙ whole_words lent none_spare c.if-answer-ne16.false
