@@ -33,8 +33,7 @@ clear-requires c =
     let lent : Lent = lent_of c.args.identifiers.now c.args.parent_identifiers.now c.args.shares.now c.args.classes.now c.args.lengths.now
     c.args.order.now c.args.report.now c.args.lags.now c.args.working.now in
     let check_is : c.check-check.result ≡ checked lent.table lent.events (room_of lent) = c.check-check.ensures in
-    let room_is : Roomy lent.table lent.events (room_of lent) = roomy_is lent c.check-check.result check_is c.if-refusal-ne0.false in
-    omega (arith, room_is.working_room, c.serve-sent.auto.working)
+    let room_is : Roomy lent.table lent.events (room_of lent) = roomy_is lent c.check-check.result check_is c.if-refusal-ne0.false in omega (arith, room_is.working_room, c.serve-sent.auto.working)
 
 pub shape_of-working : goal.shape_of-working
 shape_of-working c = c.clear.auto.working ∙ c.serve-sent.auto.working

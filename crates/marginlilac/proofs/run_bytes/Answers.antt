@@ -33,9 +33,7 @@ returns-then-unfit-ne0 c =
       lags = λ i. omega (arith, c.slice_known-3-1.given i);
       working = λ i. omega (arith, c.slice_known-4-1.given i);
     } in
-    let none_spare : spare_of lent ≡ 0 = rw c.spare-over.ensures at c.if-over-ne0.false in
-    let l = lent in
-    let unfit = c.check_counts-unfit.result in
+    let none_spare : spare_of lent ≡ 0 = rw c.spare-over.ensures at c.if-over-ne0.false in let l = lent in let unfit = c.check_counts-unfit.result in
     let refused = unfit_is l unfit (c.check_counts-unfit.ensures _ _ (slices l)) c.if-unfit-ne0.true in
     rw c.write_answer.ensures
     (refused_bytes l none_spare bytes unfit refused c.if-unfit-ne0.true ∙ whole_words l none_spare c.if-answer-ne16.false)
@@ -50,9 +48,7 @@ run_written-requires c =
       lags = λ i. omega (arith, c.slice_known-3-1.given i);
       working = λ i. omega (arith, c.slice_known-4-1.given i);
     } in
-    let none_spare : spare_of lent ≡ 0 = rw c.spare-over.ensures at c.if-over-ne0.false in
-    let l = lent in
-    record {
+    let none_spare : spare_of lent ≡ 0 = rw c.spare-over.ensures at c.if-over-ne0.false in let l = lent in record {
       bytes = bytes;
       none_spare = none_spare;
       four_words = c.if-answer-ne16.false;
@@ -63,5 +59,4 @@ pub returns : goal.returns
 returns c =
     let lent : LentBytes = lent_bytes c.args.identifiers.now c.args.parents.now c.args.shares.now c.args.classes.now c.args.lengths.now
     c.args.order.now c.args.report.now c.args.lags.now c.args.working.now c.args.answer.now in
-    let none_spare : spare_of lent ≡ 0 = rw c.spare-over.ensures at c.if-over-ne0.false in
-    c.run_written.ensures ∙ whole_words lent none_spare c.if-answer-ne16.false
+    let none_spare : spare_of lent ≡ 0 = rw c.spare-over.ensures at c.if-over-ne0.false in c.run_written.ensures ∙ whole_words lent none_spare c.if-answer-ne16.false

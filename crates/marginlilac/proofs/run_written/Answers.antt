@@ -52,8 +52,8 @@ write_longs-requires c =
     c.args.report.now c.args.lags.now c.args.working.now c.args.answer.now in
     let r : Answer = c.run_read-r.result in
     let fits : (none : r.number ≡ 0) → Fitting lent r.count = λ none. run_fits lent c.requires r _ _ _ _ c.run_read-r.ensures none in
-    let done : Fitting lent r.count = fits c.if-r-ne0.false in
-    let few_rows : length c.args.identifiers.now / 4 ≤ most_rows = (held lent c.requires).few_rows in let few = few_rows in let room = done in let size = c.run_read-r.auto.report in record { words_enough = omega (arith, length-replicate {A = ℕ} (report_words * most_rows) 0); bytes_room = omega arith }
+    let room : Fitting lent r.count = fits c.if-r-ne0.false in
+    let few_rows : length c.args.identifiers.now / 4 ≤ most_rows = (held lent c.requires).few_rows in let few = few_rows in let size = c.run_read-r.auto.report in record { words_enough = omega (arith, length-replicate {A = ℕ} (report_words * most_rows) 0); bytes_room = omega arith }
 
 pub write_signed-requires : goal.write_signed-requires
 unfolding words_lent
@@ -62,8 +62,7 @@ write_signed-requires c =
     c.args.report.now c.args.lags.now c.args.working.now c.args.answer.now in
     let r : Answer = c.run_read-r.result in
     let fits : (none : r.number ≡ 0) → Fitting lent r.count = λ none. run_fits lent c.requires r _ _ _ _ c.run_read-r.ensures none in
-    let done : Fitting lent r.count = fits c.if-r-ne0.false in
-    let few_rows : length c.args.identifiers.now / 4 ≤ most_rows = (held lent c.requires).few_rows in let few = few_rows in let room = done in let size = c.run_read-r.auto.lags in record { words_enough = omega (arith, length-replicate most_rows (pos 0)); bytes_room = omega arith }
+    let done : Fitting lent r.count = fits c.if-r-ne0.false in let few_rows : length c.args.identifiers.now / 4 ≤ most_rows = (held lent c.requires).few_rows in let few = few_rows in let room = done in let size = c.run_read-r.auto.lags in record { words_enough = omega (arith, length-replicate most_rows (pos 0)); bytes_room = omega arith }
 
 pub clear-requires : goal.clear-requires
 unfolding words_lent
