@@ -8,6 +8,7 @@ pub mod errors;
 mod handing;
 mod opening;
 mod reading;
+mod unlisted;
 pub mod unreadable;
 mod whole;
 mod writing;

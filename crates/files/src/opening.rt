@@ -3,6 +3,7 @@ use crate::Status;
 use crate::arguments::argument;
 use crate::ending::complain;
 use crate::errors::EILSEQ;
+use crate::unlisted::unopened;
 use sentences::is_input;
 use std::io::Read;
 use std::rt::{Env, Files};
@@ -28,11 +29,16 @@ pub fn open<R: Files + Input>(rt: &R, name: &[u8]) -> io::Result<Opened<R::File,
     if is_input(name) {
         return Ok(Opened::Input(rt.reader()));
     }
-    let file = fs::open(rt, text_of(name)?)?;
-    Ok(Opened::File(file))
+    match str::from_utf8(name) {
+        Ok(text) => {
+            let file = fs::open(rt, text)?;
+            Ok(Opened::File(file))
+        }
+        Err(error) => Err(unopened(rt, name, error.valid_up_to())),
+    }
 }
 
-// A name as the text that std opens. One that is none is refused as file systems refuse it that take text alone.
+// A name as the text that std makes a file of. One that is none is refused, as by file systems that take text alone.
 pub fn text_of(name: &[u8]) -> io::Result<&str> {
     match str::from_utf8(name) {
         Ok(text) => Ok(text),

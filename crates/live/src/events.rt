@@ -3,8 +3,8 @@ ghost use Rattle.std.specs.Prelude.{◌≤◌, length};
 ghost use Rattle.live_rules.specs.Layout.{state_words};
 
 use crate::answers::print_heading;
+use crate::reads::{MOST_A_READ, take};
 use crate::states::load_sound;
-use crate::taking::{MOST_A_READ, take};
 use files::unreadable::cannot_open;
 use files::{Status, Turn, argument, errors, judged, open, read_some};
 use input::{MOST_ROWS, REPORT_WORDS};

@@ -6,10 +6,10 @@
 mod answers;
 mod events;
 mod fresh;
+mod reads;
 mod refusals;
 mod reporting;
 mod states;
-mod taking;
 
 use check::same;
 use files::{Status, argument, argument_count, argument_is_input, complain, end_with};

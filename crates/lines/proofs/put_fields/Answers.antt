@@ -17,13 +17,12 @@ unfolding report_fields with_text
 loop-j-init c = search rules
 
 pub loop-j-preserved : goal.loop-j-preserved
-loop-j-preserved c =
-    (
-      search rules,
-      rw add-one (then _ _ _ c.loop-j.invariant.1 (rw c.report_word.ensures at c.put_field-used.ensures)
-          ∙ ap (with_text _) (fields_turn _ _ _)),
-      c.put_field-used.auto.page ∙ c.loop-j.invariant.2,
-    )
+loop-j-preserved c = (
+  search rules,
+  rw add-one (then _ _ _ c.loop-j.invariant.1 (rw c.report_word.ensures at c.put_field-used.ensures)
+      ∙ ap (with_text _) (fields_turn _ _ _)),
+  c.put_field-used.auto.page ∙ c.loop-j.invariant.2,
+)
 
 pub returns : goal.returns
 returns c =

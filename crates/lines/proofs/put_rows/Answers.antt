@@ -17,12 +17,11 @@ loop-r-init c = search rules
 
 pub loop-r-preserved : goal.loop-r-preserved
 unfolding row_lines
-loop-r-preserved c =
-    (
-      search rules,
-      rw add-one (then _ _ _ c.loop-r.invariant.1 c.put_row-used.ensures),
-      c.put_row-used.auto.page ∙ c.loop-r.invariant.2,
-    )
+loop-r-preserved c = (
+  search rules,
+  rw add-one (then _ _ _ c.loop-r.invariant.1 c.put_row-used.ensures),
+  c.put_row-used.auto.page ∙ c.loop-r.invariant.2,
+)
 
 pub returns : goal.returns
 returns c =

@@ -22,8 +22,7 @@ overflow_mul-events c =
 pub loop-i-init : goal.loop-i-init
 loop-i-init c =
     let tree : Tree = tree_at c.args.identifiers.now c.args.parents.now c.args.depths.now c.args.shares.now in
-    let arrivals : Arrivals = arrivals_with c.args.stamps.now c.args.packet_classes.now c.args.packet_lengths.now in
-    (
+    let arrivals : Arrivals = arrivals_with c.args.stamps.now c.args.packet_classes.now c.args.packet_lengths.now in (
       omega arith,
       refl,
       refl,
@@ -45,13 +44,19 @@ take_event-turn-requires c =
     let stamped : Stamped c.args.stamps.now = c.requires.stamped in
     let few : 2 * length c.args.stamps.now ≤ most_events = c.requires.events_few in
     let classes_room : 2 * length c.args.stamps.now ≤ length c.args.classes.now = c.requires.classes_room in
-    let lengths_room : 2 * length c.args.stamps.now ≤ length c.args.lengths.now = c.requires.lengths_room in let early = c.loop-i-test.true in record { grounded = ground; filed = c.filed-on_air_rows.ensures; stamped = stamped; roomy = record {
-              events_room = omega (arith, early, few);
-              links_room = omega (arith, early, few, c.loop-i.invariant.3);
-              order_room = omega (arith, early, few, c.loop-i.invariant.4);
-              classes_room = omega (arith, early, classes_room, c.loop-i.invariant.1);
-              lengths_room = omega (arith, early, lengths_room, c.loop-i.invariant.2);
-            }; reached = c.loop-i.invariant.5 }
+    let lengths_room : 2 * length c.args.stamps.now ≤ length c.args.lengths.now = c.requires.lengths_room in let early = c.loop-i-test.true in record {
+      grounded = ground;
+      filed = c.filed-on_air_rows.ensures;
+      stamped = stamped;
+      roomy = record {
+        events_room = omega (arith, early, few);
+        links_room = omega (arith, early, few, c.loop-i.invariant.3);
+        order_room = omega (arith, early, few, c.loop-i.invariant.4);
+        classes_room = omega (arith, early, classes_room, c.loop-i.invariant.1);
+        lengths_room = omega (arith, early, lengths_room, c.loop-i.invariant.2);
+      };
+      reached = c.loop-i.invariant.5;
+    }
 
 pub shape_of-classes-then-refusal-ne0 : goal.shape_of-classes-then-refusal-ne0
 shape_of-classes-then-refusal-ne0 c = c.take_event-turn.auto.classes ∙ c.loop-i.invariant.1
@@ -73,15 +78,14 @@ pub loop-i-smaller : goal.loop-i-smaller
 loop-i-smaller c = omega (arith, c.loop-i-test.true)
 
 pub loop-i-preserved : goal.loop-i-preserved
-loop-i-preserved c =
-    (
-      omega (arith, c.loop-i-test.true),
-      c.take_event-turn.auto.classes ∙ c.loop-i.invariant.1,
-      c.take_event-turn.auto.lengths ∙ c.loop-i.invariant.2,
-      c.loop-i.invariant.3 ∙ sym c.take_event-turn.auto.working,
-      c.loop-i.invariant.4 ∙ sym c.take_event-turn.auto.order,
-      rw add-one (c.take_event-turn.ensures.reached c.if-refusal-ne0.false),
-    )
+loop-i-preserved c = (
+  omega (arith, c.loop-i-test.true),
+  c.take_event-turn.auto.classes ∙ c.loop-i.invariant.1,
+  c.take_event-turn.auto.lengths ∙ c.loop-i.invariant.2,
+  c.loop-i.invariant.3 ∙ sym c.take_event-turn.auto.working,
+  c.loop-i.invariant.4 ∙ sym c.take_event-turn.auto.order,
+  rw add-one (c.take_event-turn.ensures.reached c.if-refusal-ne0.false),
+)
 
 pub shape_of-classes : goal.shape_of-classes
 shape_of-classes c = c.loop-i.invariant.1

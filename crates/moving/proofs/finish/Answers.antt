@@ -49,13 +49,17 @@ up-requires c =
     let rows : Rows = rows_of c.args.starts.now c.args.finishes.now c.args.virtuals.now c.args.heads.now c.args.head_lengths.now
     c.args.head_classes.now in
     let able : Finishes tree c.requires.3 c.args.next c.args.size c.requires.4 = c.requires.5 in
-    let arrays : Arrays c.requires.4 rows c.args.bytes.now c.args.held.now c.requires.1 c.requires.2 = c.requires.6 in let onward = c.depart-class.ensures.rows_after c.args.rows c.requires.0 (left c.requires.4) able.next_is in record { climbs = (
+    let arrays : Arrays c.requires.4 rows c.args.bytes.now c.args.held.now c.requires.1 c.requires.2 = c.requires.6 in let onward = c.depart-class.ensures.rows_after c.args.rows c.requires.0 (left c.requires.4) able.next_is in record {
+      climbs = (
         c.args.rows,
         c.requires.0,
         _,
         (λ (r : ℕ). r),
         onward_climbs able arrays _ _ _ _ c.depart-class.ensures.class_sent c.list_children.ensures,
-      ); inside = able.able.ready.inside; leeway = onward_leeway able arrays _ _ onward }
+      );
+      inside = able.able.ready.inside;
+      leeway = onward_leeway able arrays _ _ onward;
+    }
 
 pub returns : goal.returns
 returns c ids since parent_since place box given lent =

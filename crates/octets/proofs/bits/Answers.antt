@@ -16,9 +16,15 @@ pub overflow_cast-low : goal.overflow_cast-low
 overflow_cast-low c = rw (low_bits c.args.word) (tt, record { fits = omega arith })
 
 pub overflow_mul-result : goal.overflow_mul-result
-overflow_mul-result c = record { fits = omega (arith, (let it : nat_abs (to_z w64 (bit_and (of_z w64 c.args.word) 9223372036854775807))
-    + 9223372036854775808 * bool_byte (lt_z (to_z w64 (of_z w64 c.args.word)) (pos 0))
-    ≡ of_z w64 c.args.word = rw (low_bits c.args.word, to_z-of_z w64 c.args.word c.ranges.word) (all_bits c.args.word c.ranges.word) in it), (of_z_fits w64 c.args.word c.ranges.word).fits) }
+overflow_mul-result c = record {
+  fits = omega (
+    arith,
+    (let it : nat_abs (to_z w64 (bit_and (of_z w64 c.args.word) 9223372036854775807))
+        + 9223372036854775808 * bool_byte (lt_z (to_z w64 (of_z w64 c.args.word)) (pos 0))
+        ≡ of_z w64 c.args.word = rw (low_bits c.args.word, to_z-of_z w64 c.args.word c.ranges.word) (all_bits c.args.word c.ranges.word) in it),
+    (of_z_fits w64 c.args.word c.ranges.word).fits,
+  );
+}
 
 pub overflow_add-result : goal.overflow_add-result
 overflow_add-result c = rw ((let it : nat_abs (to_z w64 (bit_and (of_z w64 c.args.word) 9223372036854775807))

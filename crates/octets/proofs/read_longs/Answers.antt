@@ -16,13 +16,12 @@ loop-i-init c = (search rules, refl, refl)
 
 pub loop-i-preserved : goal.loop-i-preserved
 unfolding word_at
-loop-i-preserved c =
-    (
-      search rules,
-      rw c.long_at.ensures
-          (word_turn 8 c.args.bytes.now c.args.words.now c.loop-i.words c.loop-i.i (omega (arith, c.requires)) c.loop-i.invariant.1),
-      simp length-set c.loop-i.invariant.2,
-    )
+loop-i-preserved c = (
+  search rules,
+  rw c.long_at.ensures
+      (word_turn 8 c.args.bytes.now c.args.words.now c.loop-i.words c.loop-i.i (omega (arith, c.requires)) c.loop-i.invariant.1),
+  simp length-set c.loop-i.invariant.2,
+)
 
 pub returns : goal.returns
 unfolding words_of

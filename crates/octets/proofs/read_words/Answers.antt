@@ -15,13 +15,12 @@ unfolding over words_below
 loop-i-init c = (search rules, refl, refl)
 
 pub loop-i-preserved : goal.loop-i-preserved
-loop-i-preserved c =
-    (
-      search rules,
-      rw c.joined.ensures
-          (read_turn c.args.bytes.now c.args.words.now c.loop-i.words c.loop-i.i (omega arith) (omega (arith, c.requires)) c.loop-i.invariant.1),
-      simp length-set c.loop-i.invariant.2,
-    )
+loop-i-preserved c = (
+  search rules,
+  rw c.joined.ensures
+      (read_turn c.args.bytes.now c.args.words.now c.loop-i.words c.loop-i.i (omega arith) (omega (arith, c.requires)) c.loop-i.invariant.1),
+  simp length-set c.loop-i.invariant.2,
+)
 
 pub returns : goal.returns
 unfolding words_of

@@ -18,14 +18,13 @@ unfolding over bytes_of signed_bytes_of
 loop-i-init c = (search rules, refl, refl)
 
 pub loop-i-preserved : goal.loop-i-preserved
-loop-i-preserved c =
-    (
-      search rules,
-      c.put_long.ensures
-          ∙ rw (c.bits.ensures, to_z-of_z w64 (get_or c.args.words.now c.loop-i.i (pos 0)) (record { sfits = c.bits-arg-1.given }))
-          (signed_turn c.args.words.now c.args.bytes.now c.loop-i.bytes c.loop-i.i (omega (arith, c.requires.words_enough)) (omega (arith, c.requires.bytes_room)) c.loop-i.invariant.1),
-      c.put_long.auto.bytes ∙ c.loop-i.invariant.2,
-    )
+loop-i-preserved c = (
+  search rules,
+  c.put_long.ensures
+      ∙ rw (c.bits.ensures, to_z-of_z w64 (get_or c.args.words.now c.loop-i.i (pos 0)) (record { sfits = c.bits-arg-1.given }))
+      (signed_turn c.args.words.now c.args.bytes.now c.loop-i.bytes c.loop-i.i (omega (arith, c.requires.words_enough)) (omega (arith, c.requires.bytes_room)) c.loop-i.invariant.1),
+  c.put_long.auto.bytes ∙ c.loop-i.invariant.2,
+)
 
 pub returns : goal.returns
 returns c =

@@ -14,13 +14,12 @@ unfolding over bytes_of
 loop-i-init c = (search rules, refl, refl)
 
 pub loop-i-preserved : goal.loop-i-preserved
-loop-i-preserved c =
-    (
-      search rules,
-      c.put_word.ensures
-          ∙ write_turn 4 c.args.words.now c.args.bytes.now c.loop-i.bytes c.loop-i.i (omega (arith, c.requires.words_enough)) (omega (arith, c.requires.bytes_room)) c.loop-i.invariant.1,
-      c.put_word.auto.bytes ∙ c.loop-i.invariant.2,
-    )
+loop-i-preserved c = (
+  search rules,
+  c.put_word.ensures
+      ∙ write_turn 4 c.args.words.now c.args.bytes.now c.loop-i.bytes c.loop-i.i (omega (arith, c.requires.words_enough)) (omega (arith, c.requires.bytes_room)) c.loop-i.invariant.1,
+  c.put_word.auto.bytes ∙ c.loop-i.invariant.2,
+)
 
 pub returns : goal.returns
 returns c =

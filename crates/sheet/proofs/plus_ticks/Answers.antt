@@ -12,11 +12,10 @@ pub returns-then-not-from : goal.returns-then-not-from
 returns-then-not-from c = c.outgrown.ensures ∙ sym (ticks_outgrown _ _ (not-true _ c.if-not-from.true))
 
 pub sum-requires : goal.sum-requires
-sum-requires c =
-    (
-      c.requires (not-false _ c.if-not-from.false),
-      rw c.lowest.ensures (denominator_some (fraction _ ticks) (omega arith)),
-    )
+sum-requires c = (
+  c.requires (not-false _ c.if-not-from.false),
+  rw c.lowest.ensures (denominator_some (fraction _ ticks) (omega arith)),
+)
 
 pub returns : goal.returns
 returns c =

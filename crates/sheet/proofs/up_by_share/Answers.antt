@@ -39,11 +39,10 @@ overflow_add-from c =
     record { fits = passed _ _ _ c.sum_fits.ensures (c.if-not-sum_fits.false) }
 
 pub product-requires : goal.product-requires
-product-requires c =
-    (
-      c.requires (not-false _ c.if-not-from.false),
-      rw c.lowest-part.ensures (denominator_some (whole_over _) (omega arith)),
-    )
+product-requires c = (
+  c.requires (not-false _ c.if-not-from.false),
+  rw c.lowest-part.ensures (denominator_some (whole_over _) (omega arith)),
+)
 
 pub returns : goal.returns
 unfolding step_up

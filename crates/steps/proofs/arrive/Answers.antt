@@ -14,5 +14,9 @@ pub arrive-requires : goal.arrive-requires
 arrive-requires c = record { k_is_row = c.requires.k_is_row; place_small = omega (arith, c.requires.place_small); inside = c.requires.ready.inside; length_allowed = c.requires.length_allowed; leeway = small_leeway most_charge _ (lit< tt) c.requires.ready.small }
 
 pub returns : goal.returns
-returns c = record { front = c.arrive.ensures.front; rows_after = (λ n ids. c.arrive.ensures.rows_after n ids _); counts_after = λ n ids box counts.
-            c.enter.ensures _ box c.args.place c.args.length (record { parents = refl; depths = refl }) counts }
+returns c = record {
+  front = c.arrive.ensures.front;
+  rows_after = (λ n ids. c.arrive.ensures.rows_after n ids _);
+  counts_after = λ n ids box counts.
+      c.enter.ensures _ box c.args.place c.args.length (record { parents = refl; depths = refl }) counts;
+}

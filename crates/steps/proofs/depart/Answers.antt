@@ -18,6 +18,10 @@ pub renew-requires : goal.renew-requires
 renew-requires c = record { k_lt_most_rows = omega (arith, c.wide-k.ensures.0, c.requires.class_is_row); inside = c.requires.ready.inside; length_le_most_bytes = c.requires.length_allowed; leeway = small_leeway most_charge _ (lit< tt) (left_small _ _ _ _ c.requires.ready.small (c.finish_first.ensures 0 [] [] _ _ _)) }
 
 pub returns : goal.returns
-returns c = let widened = c.wide-k in record { class_sent = widened.ensures.0; rows_after = (λ n ids later first. rw (renews_first, first, ← c.finish_first.ensures n ids _ _ _ _) (c.renew.ensures n ids _)); counts_after = λ n ids box since parent_since are counts.
-            c.leave.ensures _ box since parent_since (record { parents = refl; depths = refl })
-            (ap (λ (a : Rows). head_class a 0) are ∙ sym widened.ensures.0) (ap (λ (a : Rows). head_length a 0) are) counts }
+returns c = let widened = c.wide-k in record {
+  class_sent = widened.ensures.0;
+  rows_after = (λ n ids later first. rw (renews_first, first, ← c.finish_first.ensures n ids _ _ _ _) (c.renew.ensures n ids _));
+  counts_after = λ n ids box since parent_since are counts.
+      c.leave.ensures _ box since parent_since (record { parents = refl; depths = refl })
+      (ap (λ (a : Rows). head_class a 0) are ∙ sym widened.ensures.0) (ap (λ (a : Rows). head_length a 0) are) counts;
+}

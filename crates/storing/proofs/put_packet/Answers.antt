@@ -12,6 +12,9 @@ pub bounds-state-m-3 : goal.bounds-state-m-3
 bounds-state-m-3 c = simp (length-set, length-set) (omega arith)
 
 pub returns : goal.returns
-returns c = let s = c.args in record { state_after = λ packets same.
-          rw (← same, c.counted.ensures, c.long.ensures.0, c.long-2.ensures.0)
-          (packets_joined s.m s.state.now (omega arith) (omega arith) (record { class = s.class; length = s.size; name = s.name })); state_unchanged = simp length-set }
+returns c = let s = c.args in record {
+  state_after = λ packets same.
+      rw (← same, c.counted.ensures, c.long.ensures.0, c.long-2.ensures.0)
+      (packets_joined s.m s.state.now (omega arith) (omega arith) (record { class = s.class; length = s.size; name = s.name }));
+  state_unchanged = simp length-set;
+}

@@ -6,14 +6,17 @@ use Rattle.storing.proofs.store_counts.Goals as goal
 
 pub returns : goal.returns
 unfolding counts_stored
-returns c = record { state_after = λ live bytes held since parent_since.
-          rw (
-            bytes,
-            held,
-            since,
-            parent_since,
-            c.store_longs-3.ensures.state_after,
-            c.store_longs-2.ensures.state_after,
-            c.store_words.ensures.state_after,
-            c.store_longs.ensures.state_after,
-          ); state_unchanged = c.store_longs-3.ensures.state_unchanged ∙ c.store_longs-2.ensures.state_unchanged ∙ c.store_words.ensures.state_unchanged ∙ c.store_longs.ensures.state_unchanged }
+returns c = record {
+  state_after = λ live bytes held since parent_since.
+      rw (
+        bytes,
+        held,
+        since,
+        parent_since,
+        c.store_longs-3.ensures.state_after,
+        c.store_longs-2.ensures.state_after,
+        c.store_words.ensures.state_after,
+        c.store_longs.ensures.state_after,
+      );
+  state_unchanged = c.store_longs-3.ensures.state_unchanged ∙ c.store_longs-2.ensures.state_unchanged ∙ c.store_words.ensures.state_unchanged ∙ c.store_longs.ensures.state_unchanged;
+}

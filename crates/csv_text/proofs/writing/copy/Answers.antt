@@ -15,12 +15,11 @@ unfolding over
 loop-i-init c = (search rules, refl, refl)
 
 pub loop-i-preserved : goal.loop-i-preserved
-loop-i-preserved c =
-    (
-      search rules,
-      copy_turn c.args.bytes.now c.args.lent.now c.loop-i.lent c.loop-i.i (omega arith) (omega (arith, c.requires)) c.loop-i.invariant.1,
-      simp length-set c.loop-i.invariant.2,
-    )
+loop-i-preserved c = (
+  search rules,
+  copy_turn c.args.bytes.now c.args.lent.now c.loop-i.lent c.loop-i.i (omega arith) (omega (arith, c.requires)) c.loop-i.invariant.1,
+  simp length-set c.loop-i.invariant.2,
+)
 
 pub returns : goal.returns
 returns c =

@@ -9,18 +9,16 @@ use native.Mathlib.Omega.{arith}
 use Rattle.drawing.proofs.parts.product.Goals as goal
 
 pub loop-step-init : goal.loop-step-init
-loop-step-init c =
-    (
-      omega arith,
-      omega arith,
-      omega arith,
-      λ tree eP eS. ap (λ (k : ℕ). hundredths * product tree k c.args.row) (omega arith),
-    )
+loop-step-init c = (
+  omega arith,
+  omega arith,
+  omega arith,
+  λ tree eP eS. ap (λ (k : ℕ). hundredths * product tree k c.args.row) (omega arith),
+)
 
 pub times-wide-requires : goal.times-wide-requires
 times-wide-requires c =
-    let at = c.loop-step in
-    (
+    let at = c.loop-step in (
       at.invariant.1,
       high_fits at.wide.high at.wide.low at.step (omega (arith, c.requires)) at.invariant.2,
       omega (arith, c.long.ensures.0, c.least-part.ensures),
@@ -29,8 +27,7 @@ times-wide-requires c =
 pub loop-step-preserved : goal.loop-step-preserved
 unfolding part
 loop-step-preserved c =
-    let at = c.loop-step in
-    (
+    let at = c.loop-step in (
       omega arith,
       c.times-wide.ensures.1,
       rw c.times-wide.ensures.0 (grows c.long.result (value at.wide) at.step (omega (arith, c.long.ensures.0, c.least-part.ensures)) at.invariant.2),

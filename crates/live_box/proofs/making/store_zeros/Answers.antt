@@ -8,8 +8,11 @@ use Rattle.live_box.proofs.making.store_zeros.Goals as goal
 
 pub returns : goal.returns
 unfolding fresh_live fresh zeros
-returns c = record { state_after = λ table.
-          let counts = c.store_counts.ensures.state_after (fresh_live table) refl refl refl refl in
-          let heads = c.store_heads.ensures.state_after (fresh_live table).rows refl refl refl in
-          let tags = c.store_tags.ensures.state_after (fresh_live table).rows refl refl refl in
-          cc; state_len_unchanged = c.store_counts.ensures.state_unchanged ∙ c.store_heads.ensures.state_unchanged ∙ c.store_tags.ensures.state_unchanged }
+returns c = record {
+  state_after = λ table.
+      let counts = c.store_counts.ensures.state_after (fresh_live table) refl refl refl refl in
+      let heads = c.store_heads.ensures.state_after (fresh_live table).rows refl refl refl in
+      let tags = c.store_tags.ensures.state_after (fresh_live table).rows refl refl refl in
+      cc;
+  state_len_unchanged = c.store_counts.ensures.state_unchanged ∙ c.store_heads.ensures.state_unchanged ∙ c.store_tags.ensures.state_unchanged;
+}

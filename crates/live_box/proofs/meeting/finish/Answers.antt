@@ -26,8 +26,11 @@ returns-then-refusal-ne0 c =
 
 pub take_finish-requires : goal.take_finish-requires
 take_finish-requires c = let a = c.args in let live = live_in a.words.now in let check = c.check_finish-check in let refusal = check.result.refusal in let is : refusal ≡ meeting_refused live.tree 0 a.word Finish (idle (box_of live))
-    = rw (line_idle a.words.now a.state c.requires) at (check.ensures live.tree).refusal in record { state_room = c.requires.long; takes = finish_takes a.words.now a.state c.requires a.word
-          (finish_passed a.words.now a.state c.requires a.word refusal is c.if-refusal-ne0.false) }
+    = rw (line_idle a.words.now a.state c.requires) at (check.ensures live.tree).refusal in record {
+      state_room = c.requires.long;
+      takes = finish_takes a.words.now a.state c.requires a.word
+          (finish_passed a.words.now a.state c.requires a.word refusal is c.if-refusal-ne0.false);
+    }
 
 pub returns : goal.returns
 returns c =

@@ -59,8 +59,7 @@ pub loop-k-preserved : goal.loop-k-preserved
 loop-k-preserved c =
     let capture : List ℕ = c.args.capture.now in
     let inv = c.loop-k.invariant in
-    let l = c.loop-k in
-    (
+    let l = c.loop-k in (
       omega arith,
       begins_next capture l.k l.at c.included.result inv.1 (c.included.ensures.1 c.requires.found.laid),
       ap length c.read_record.ensures.0 ∙ simp length-set inv.2,

@@ -12,11 +12,10 @@ slice_bounds-row_of-end c = simp length-take (omega arith)
 
 pub returns-then-row-identifiers : goal.returns-then-row-identifiers
 unfolding parent_row
-returns-then-row-identifiers c =
-    (
-      rw (lt-ltb _ _ c.if-row-identifiers.true) c.row_of.ensures.0,
-      omega (arith, c.row_of.ensures.1, length_take_most c.args.row c.args.identifiers.now),
-    )
+returns-then-row-identifiers c = (
+  rw (lt-ltb _ _ c.if-row-identifiers.true) c.row_of.ensures.0,
+  omega (arith, c.row_of.ensures.1, length_take_most c.args.row c.args.identifiers.now),
+)
 
 pub returns : goal.returns
 unfolding parent_row

@@ -18,15 +18,14 @@ bounds-marks-wide c =
     omega (arith, c.wide.ensures.0)
 
 pub loop-r-preserved : goal.loop-r-preserved
-loop-r-preserved c =
-    (
-      omega arith,
-      omega arith,
-      length-set c.loop-r.marks c.wide.result false ∙ c.loop-r.invariant.2,
-      λ tree e p inside.
-          rw (add-one, c.wide.ensures.0, ← e)
-          (senders_turn tree c.loop-r.marks c.loop-r.r c.loop-r.invariant.0 c.loop-r.invariant.2 (c.loop-r.invariant.3 tree e) p inside),
-    )
+loop-r-preserved c = (
+  omega arith,
+  omega arith,
+  length-set c.loop-r.marks c.wide.result false ∙ c.loop-r.invariant.2,
+  λ tree e p inside.
+      rw (add-one, c.wide.ensures.0, ← e)
+      (senders_turn tree c.loop-r.marks c.loop-r.r c.loop-r.invariant.0 c.loop-r.invariant.2 (c.loop-r.invariant.3 tree e) p inside),
+)
 
 pub returns : goal.returns
 returns c tree e1 e2 r inside =

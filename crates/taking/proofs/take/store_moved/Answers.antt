@@ -17,7 +17,8 @@ store_counts-requires c = let full = c.requires.moved_full in let heads = c.stor
 
 pub returns : goal.returns
 unfolding rows_kept
-returns c = record { words_after = λ live keeps.
+returns c = record {
+  words_after = λ live keeps.
       let n = c.args.n in
       let rows = keeps.rows_are in
       c.store_counts.ensures.state_after live keeps.bytes_are keeps.held_are keeps.since_are keeps.parent_since_are
@@ -29,4 +30,6 @@ returns c = record { words_after = λ live keeps.
       (ap (λ (a : Rows). a.virtuals) rows)
       ∙ ap (tags_stored n live.rows)
       (c.store_accepted.ensures.words_after
-      ∙ ap (λ (x : ℕ). sets c.args.words.now accepted_word (x ∷ [])) (sym keeps.accepted_is)))); words_len_unchanged = search rules }
+      ∙ ap (λ (x : ℕ). sets c.args.words.now accepted_word (x ∷ [])) (sym keeps.accepted_is))));
+  words_len_unchanged = search rules;
+}

@@ -12,8 +12,12 @@ after_arrival-moved-requires c =
     (live, arrival_comes live a.state a.k a.size c.next_name-name.result c.requires.takes c.next_name-name.ensures)
 
 pub store_moved-requires : goal.store_moved-requires
-store_moved-requires c = let a = c.args in let takes = c.requires.takes in let live = live_in a.words.now in let name = c.next_name-name in let moved = c.after_arrival-moved in let few = takes.holds.counted.few_rows in let rows = takes.opened.rows in record { rows_few = omega arith; state_room = c.requires.state_room; moved_full = arrival_full live a.state a.k a.size name.result takes name.ensures moved.result
-            (moved.ensures live (arrival_comes live a.state a.k a.size name.result takes name.ensures)) }
+store_moved-requires c = let a = c.args in let takes = c.requires.takes in let live = live_in a.words.now in let name = c.next_name-name in let moved = c.after_arrival-moved in let few = takes.holds.counted.few_rows in let rows = takes.opened.rows in record {
+  rows_few = omega arith;
+  state_room = c.requires.state_room;
+  moved_full = arrival_full live a.state a.k a.size name.result takes name.ensures moved.result
+      (moved.ensures live (arrival_comes live a.state a.k a.size name.result takes name.ensures));
+}
 
 pub returns : goal.returns
 returns c class row =
