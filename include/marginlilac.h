@@ -1,4 +1,4 @@
-/* Marginlilac for C: a whole run of the scheduler, on bytes. Link libmarginlilac.a, which `rt staticlib marginlilac` makes.
+/* Marginlilac for C: a whole run of the scheduler, on bytes. Link libmarginlilac.a, which tools/archive makes.
  *
  * A slice is two arguments, where it begins and how many bytes it has. Its bytes are words, the lowest byte first, and may lie at any
  * address. No pointer may be null, also where the length is 0. A slice that is written must not overlap any other; the first five,

@@ -1,5 +1,5 @@
 //! Says where the archive of the engines is: in the folder that MARGINLILAC_LIB names, or where
-//! `rt staticlib marginlilac` puts it in this repository.
+//! `tools/archive` puts it in this repository.
 
 use std::path::PathBuf;
 use std::{env, process};
@@ -16,7 +16,7 @@ fn main() {
     println!("cargo:rerun-if-changed={}", archive.display());
     if !archive.is_file() {
         eprintln!(
-            "{} is not there: make it with 'rt staticlib marginlilac', or name its folder in {VARIABLE}",
+            "{} is not there: make it with tools/archive, or name its folder in {VARIABLE}",
             archive.display()
         );
         process::exit(1);
