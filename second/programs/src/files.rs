@@ -5,6 +5,8 @@ use std::ffi::OsStr;
 use std::fs::{self, File};
 use std::io::{self, ErrorKind, Read, Write};
 use std::os::fd::AsFd;
+use std::os::unix::ffi::OsStrExt;
+use std::str;
 
 use crate::response::{error_number, Response};
 
@@ -91,10 +93,14 @@ impl<'a> Source<'a> {
     }
 }
 
-/// Opens a file by its name. Of names that are no UTF-8 text it is told only whether they are there.
+/// Opens a file by its name. Of a name that is no UTF-8 text it is told only whether the first part of
+/// it that is none is there.
 fn open_named(name: &OsStr) -> io::Result<File> {
-    if name.to_str().is_none() {
-        fs::symlink_metadata(name)?;
+    let bytes = name.as_bytes();
+    if let Err(error) = str::from_utf8(bytes) {
+        let odd = error.valid_up_to();
+        let rest = bytes[odd..].iter().take_while(|byte| **byte != b'/');
+        fs::symlink_metadata(OsStr::from_bytes(&bytes[..odd + rest.count()]))?;
     }
     as_text(name).and_then(File::open)
 }
