@@ -5,8 +5,6 @@ use std::ffi::OsStr;
 use std::fs::{self, File};
 use std::io::{self, ErrorKind, Read, Write};
 use std::os::fd::AsFd;
-use std::os::unix::ffi::OsStrExt;
-use std::str;
 
 use crate::response::{error_number, Response};
 
@@ -18,7 +16,6 @@ const EISDIR: i32 = 21;
 const ENOSPC: i32 = 28;
 const EROFS: i32 = 30;
 const ENAMETOOLONG: i32 = 36;
-const EILSEQ: i32 = 84;
 const EDQUOT: i32 = 122;
 
 /// An argument that names a file; `-` is standard input.
@@ -67,7 +64,7 @@ impl<'a> Source<'a> {
     pub fn open(&self) -> Result<File, Response> {
         let opened = match self.is_standard_input() {
             true => io::stdin().as_fd().try_clone_to_owned().map(File::from),
-            false => open_named(self.argument),
+            false => File::open(self.argument),
         };
         opened.map_err(|error| self.unread(&error))
     }
@@ -93,32 +90,13 @@ impl<'a> Source<'a> {
     }
 }
 
-/// Opens a file by its name. Of a name that is no UTF-8 text it is told only whether the first part of
-/// it that is none is there.
-fn open_named(name: &OsStr) -> io::Result<File> {
-    let bytes = name.as_bytes();
-    if let Err(error) = str::from_utf8(bytes) {
-        let odd = error.valid_up_to();
-        let rest = bytes[odd..].iter().take_while(|byte| **byte != b'/');
-        fs::symlink_metadata(OsStr::from_bytes(&bytes[..odd + rest.count()]))?;
-    }
-    as_text(name).and_then(File::open)
-}
-
-fn as_text(name: &OsStr) -> io::Result<&str> {
-    let refused = || io::Error::from_raw_os_error(EILSEQ);
-    name.to_str().ok_or_else(refused)
-}
-
 /// Writes a file whole: to one beside it, which then takes its name. Where that fails the file stays
 /// as it was, and nothing beside it.
 pub fn replace(name: &OsStr, bytes: &[u8]) -> Result<(), Response> {
     let mut beside = name.to_os_string();
     beside.push(".new");
     let unwritten = |error: io::Error| Response::cannot_write(name, &unwritable(&error));
-    let file = as_text(name)
-        .and_then(|_| File::create(&beside))
-        .map_err(unwritten)?;
+    let file = File::create(&beside).map_err(unwritten)?;
     let written = write_to_disk(file, bytes).and_then(|()| fs::rename(&beside, name));
     written.map_err(|error| {
         // Where it cannot be removed there is nothing better to be said.

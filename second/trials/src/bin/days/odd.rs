@@ -16,8 +16,8 @@ use lists::{
     headings, line_ends, long_lines, long_list, neither_room_nor_count, refused_list, unread_lists,
 };
 use states::{
-    beside, fresh_over, links, odd_names, one_for_two, sizes, unread_states, unread_tables,
-    unwritten_states,
+    beside, fresh_over, links, names_of_no_text, odd_names, one_for_two, sizes, unread_states,
+    unread_tables, unwritten_states,
 };
 use system::{closed_files, closed_folder, closed_output, cut_off, full_disk, full_streams};
 use trials::{End, Printed};
@@ -35,7 +35,7 @@ const FOLDER: &str = "it is a folder\n";
 /// A trial by its name; both folders have a table, a fresh state of it and a list.
 pub type Trial = (&'static str, fn(&mut Pair) -> Tried<()>);
 
-pub const TRIALS: [Trial; 25] = [
+pub const TRIALS: [Trial; 26] = [
     ("wrong calls", wrong_calls),
     ("a state called like standard input", dash),
     ("states of other sizes", sizes),
@@ -48,6 +48,7 @@ pub const TRIALS: [Trial; 25] = [
     ("one file for two", one_for_two),
     ("a fresh state over another", fresh_over),
     ("odd names", odd_names),
+    ("names of no text", names_of_no_text),
     ("lists without a heading", headings),
     ("line ends", line_ends),
     ("neither room nor a count", neither_room_nor_count),

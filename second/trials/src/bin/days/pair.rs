@@ -1,6 +1,7 @@
 //! Both programs side by side, each in a folder of its own whose files have the same names.
 
 use std::collections::BTreeMap;
+use std::ffi::OsStr;
 use std::fs;
 use std::io::{Error, Result};
 use std::path::{Path, PathBuf};
@@ -99,6 +100,13 @@ impl Pair {
             command
         };
         self.ask_by(command, fed)
+    }
+
+    /// What the proved program prints to these arguments, where the other does something else.
+    pub fn proved(&self, arguments: &[&OsStr]) -> Result<Printed> {
+        let mut command = Command::new(&self.programs.live[0]);
+        command.args(arguments);
+        Printed::within(MOST_TIME, &mut command, &Fed::Nothing, &self.folders[0])
     }
 
     /// The same with the programs started in another way.

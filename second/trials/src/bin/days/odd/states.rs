@@ -10,7 +10,8 @@ use std::process::Command;
 use crate::day::{LIST, STATE, TABLE};
 use crate::odd::{unreadable, FOLDER, NO_FILE, ROWS};
 use crate::pair::{wrong, Pair, Tried};
-use trials::Fed;
+use crate::shown::whole_print;
+use trials::{End, Fed};
 
 const UNSOUND: &str = "this is no sound state of a live box: it was damaged or is another file; \
                        make a fresh one, or bring back one that was kept.\n";
@@ -177,15 +178,7 @@ pub fn fresh_over(pair: &mut Pair) -> Tried<()> {
 }
 
 pub fn odd_names(pair: &mut Pair) -> Tried<()> {
-    for name in [
-        &b"a b"[..],
-        b"-x",
-        b"\xff\xfe",
-        b"new\nline",
-        b".new",
-        b"%s%n",
-        b"'\"$x",
-    ] {
+    for name in [&b"a b"[..], b"-x", b"new\nline", b".new", b"%s%n", b"'\"$x"] {
         let name = OsStr::from_bytes(name);
         let [fresh, events, report] = ["fresh", "events", "report"].map(OsStr::new);
         let [table, state, list] = [TABLE, STATE, LIST].map(OsStr::new);
@@ -207,4 +200,50 @@ pub fn odd_names(pair: &mut Pair) -> Tried<()> {
         }
     }
     Ok(())
+}
+
+/// Names that are no UTF-8 text: the library that the proved program goes by opens and makes none. A
+/// missing one is told as it is by the other.
+pub fn names_of_no_text(pair: &mut Pair) -> Tried<()> {
+    let name = OsStr::from_bytes(b"\xff\xfe");
+    let [fresh, events, report] = ["fresh", "events", "report"].map(OsStr::new);
+    let [table, state, list] = [TABLE, STATE, LIST].map(OsStr::new);
+    let calls: [&[&OsStr]; 4] = [
+        &[report, name],
+        &[events, name, list],
+        &[events, state, name],
+        &[fresh, name, table],
+    ];
+    for call in calls {
+        let by = |program: &Path| {
+            let mut command = Command::new(program);
+            command.args(call);
+            command
+        };
+        pair.ask_by(by, |_| Fed::Nothing)?;
+    }
+    refused_name(pair, "write", &[fresh, table, name])?;
+    match pair.folders[0].join(name).exists() {
+        true => return wrong("a name that is no text", "a file was made"),
+        false => pair.each(|folder| fs::write(folder.join(name), ROWS))?,
+    }
+    for call in calls {
+        refused_name(pair, "read", call)?;
+    }
+    Ok(())
+}
+
+/// The proved program says that the system refuses the name, and nothing else.
+fn refused_name(pair: &Pair, what: &str, call: &[&OsStr]) -> Tried<()> {
+    let printed = pair.proved(call)?;
+    let said = [
+        format!("cannot {what} ").as_bytes(),
+        b"\xff\xfe: the system refuses it with error 84\n",
+    ]
+    .concat();
+    let right = printed.output.is_empty() && printed.error == said;
+    match right && matches!(printed.end, End::Status(2)) {
+        true => Ok(()),
+        false => wrong(&format!("{call:?}"), &whole_print(&printed)),
+    }
 }
