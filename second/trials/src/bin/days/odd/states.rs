@@ -11,6 +11,7 @@ use crate::day::{LIST, STATE, TABLE};
 use crate::odd::{unreadable, FOLDER, NO_FILE, ROWS};
 use crate::pair::{wrong, Pair, Tried};
 use crate::shown::whole_print;
+use crate::tally::HEADING;
 use trials::{End, Fed};
 
 const UNSOUND: &str = "this is no sound state of a live box: it was damaged or is another file; \
@@ -222,26 +223,27 @@ pub fn names_of_no_text(pair: &mut Pair) -> Tried<()> {
         };
         pair.ask_by(by, |_| Fed::Nothing)?;
     }
-    refused_name(pair, "write", &[fresh, table, name])?;
+    refused_name(pair, "write", &[fresh, table, name], "")?;
     match pair.folders[0].join(name).exists() {
         true => return wrong("a name that is no text", "a file was made"),
         false => pair.each(|folder| fs::write(folder.join(name), ROWS))?,
     }
-    for call in calls {
-        refused_name(pair, "read", call)?;
+    let heading = format!("{HEADING}\r\n");
+    for (call, output) in calls.into_iter().zip(["", "", &heading, ""]) {
+        refused_name(pair, "read", call, output)?;
     }
     Ok(())
 }
 
 /// The proved program says that the system refuses the name, and nothing else.
-fn refused_name(pair: &Pair, what: &str, call: &[&OsStr]) -> Tried<()> {
+fn refused_name(pair: &Pair, what: &str, call: &[&OsStr], output: &str) -> Tried<()> {
     let printed = pair.proved(call)?;
     let said = [
         format!("cannot {what} ").as_bytes(),
         b"\xff\xfe: the system refuses it with error 84\n",
     ]
     .concat();
-    let right = printed.output.is_empty() && printed.error == said;
+    let right = printed.output == output.as_bytes() && printed.error == said;
     match right && matches!(printed.end, End::Status(2)) {
         true => Ok(()),
         false => wrong(&format!("{call:?}"), &whole_print(&printed)),
