@@ -102,13 +102,6 @@ impl Pair {
         self.ask_by(command, fed)
     }
 
-    /// What the proved program prints to these arguments, where the other does something else.
-    pub fn proved(&self, arguments: &[&OsStr]) -> Result<Printed> {
-        let mut command = Command::new(&self.programs.live[0]);
-        command.args(arguments);
-        Printed::within(MOST_TIME, &mut command, &Fed::Nothing, &self.folders[0])
-    }
-
     /// The same with the programs started in another way.
     pub fn ask_by(
         &mut self,
@@ -125,6 +118,13 @@ impl Pair {
         let ((command, proved), (_, second)) = (run(0)?, run(1)?);
         let asked = format!("{:?} {:?}", command.get_program(), command.get_args());
         self.agree(&asked, proved, second)
+    }
+
+    /// What the proved program prints to these arguments, where the other does something else.
+    pub fn proved(&self, arguments: &[&OsStr]) -> Result<Printed> {
+        let mut command = Command::new(&self.programs.live[0]);
+        command.args(arguments);
+        Printed::within(MOST_TIME, &mut command, &Fed::Nothing, &self.folders[0])
     }
 
     /// What both have printed and left, if it is the same.

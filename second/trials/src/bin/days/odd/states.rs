@@ -191,14 +191,20 @@ pub fn odd_names(pair: &mut Pair) -> Tried<()> {
             &[report, name],
             &[fresh, name, table],
         ];
-        for call in calls {
-            let by = |program: &Path| {
-                let mut command = Command::new(program);
-                command.args(call);
-                command
-            };
-            pair.ask_by(by, |_| Fed::Nothing)?;
-        }
+        ask_all(pair, &calls)?;
+    }
+    Ok(())
+}
+
+/// Both programs print the same to each of these calls.
+fn ask_all(pair: &mut Pair, calls: &[&[&OsStr]]) -> Tried<()> {
+    for call in calls {
+        let by = |program: &Path| {
+            let mut command = Command::new(program);
+            command.args(*call);
+            command
+        };
+        pair.ask_by(by, |_| Fed::Nothing)?;
     }
     Ok(())
 }
@@ -215,14 +221,7 @@ pub fn names_of_no_text(pair: &mut Pair) -> Tried<()> {
         &[events, state, name],
         &[fresh, name, table],
     ];
-    for call in calls {
-        let by = |program: &Path| {
-            let mut command = Command::new(program);
-            command.args(call);
-            command
-        };
-        pair.ask_by(by, |_| Fed::Nothing)?;
-    }
+    ask_all(pair, &calls)?;
     refused_name(pair, "write", &[fresh, table, name], "")?;
     match pair.folders[0].join(name).exists() {
         true => return wrong("a name that is no text", "a file was made"),
