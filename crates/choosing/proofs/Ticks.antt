@@ -15,7 +15,7 @@ use Rattle.input.specs.Classes.{Tree, parent}
 use Rattle.rules.specs.Box.{Rows, start, virtual, head}
 use Rattle.rules.specs.Steps.{with_virtual, next_start, waits, least, raised}
 use Rattle.input.specs.Lent.{tree_with}
-use Rattle.looking.specs.Arrays.{next_start_of}
+use Rattle.arrays.specs.Arrays.{next_start_of}
 use Rattle.choosing.specs.Sizes.{Leeway, most_charge, most_passed}
 use Rattle.looking.proofs.Parts.{next_start_part}
 

@@ -17,7 +17,7 @@ ghost use Rattle.rules.specs.Steps as steps;
 ghost use Rattle.laws.specs.Sound.{Sound, Kid};
 ghost use Rattle.heaps.specs.Heaps.{forest};
 ghost use Rattle.filing.specs.Heaped.{Heaped};
-ghost use Rattle.looking.specs.Arrays.{rows_of, Inside, has_head_of, next_start_of};
+ghost use Rattle.arrays.specs.Arrays.{rows_of, Inside, has_head_of, next_start_of};
 ghost use Rattle.choosing.specs.Sizes.{Leeway, most_charge, most_choice};
 ghost use Rattle.choosing.specs.Filed.{Filed, Chooses, Found, Chosen};
 

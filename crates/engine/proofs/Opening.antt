@@ -16,7 +16,7 @@ use Rattle.laws.proofs.Event.Outset.{replicate_at, zeros_at, empty_queue}
 use Rattle.laws.proofs.Tree.Trees.{zeros_full}
 use Rattle.laws.specs.Named.{class_for}
 use Rattle.heaps.specs.Heaps.{Forest}
-use Rattle.looking.specs.Arrays.{rows_of}
+use Rattle.arrays.specs.Arrays.{rows_of}
 use Rattle.choosing.specs.declared.Way.{Way}
 use Rattle.choosing.specs.Filed.{Filed}
 use Rattle.laws.proofs.Run.Sizes.{since_below, parent_since_below}

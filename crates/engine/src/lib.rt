@@ -9,7 +9,7 @@ ghost use Rattle.rules.specs.Box.{fresh};
 ghost use Rattle.rules.specs.Outcome.{Ran};
 ghost use Rattle.heaps.specs.Sizes.{most_heaps, most_members};
 ghost use Rattle.heaps.specs.Heaps.{forest};
-ghost use Rattle.looking.specs.Arrays.{Inside};
+ghost use Rattle.arrays.specs.Arrays.{Inside};
 ghost use Rattle.choosing.specs.Filed.{Filed};
 ghost use Rattle.report.specs.Shown.{Sending};
 ghost use Rattle.events.specs.State.{Fit};

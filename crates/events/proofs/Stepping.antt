@@ -36,7 +36,7 @@ use Rattle.laws.proofs.Event.Keeping.{class_head}
 use Rattle.laws.proofs.Run.Sizes.{few, small_kept}
 use Rattle.heaps.specs.Heaps.{Forest}
 use Rattle.choosing.specs.declared.Way.{Way}
-use Rattle.looking.specs.Arrays.{has_head_of}
+use Rattle.arrays.specs.Arrays.{has_head_of}
 use Rattle.looking.proofs.Parts.{head_part}
 use Rattle.choosing.specs.Filed.{Filed}
 use Rattle.choosing.specs.Sizes.{Leeway, most_charge}

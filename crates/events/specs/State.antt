@@ -12,7 +12,7 @@ use Rattle.rules.specs.Outcome.{over}
 use Rattle.laws.specs.History.{Accepted}
 use Rattle.laws.specs.Named.{class_for}
 use Rattle.heaps.specs.Heaps.{Forest}
-use Rattle.looking.specs.Arrays.{Inside}
+use Rattle.arrays.specs.Arrays.{Inside}
 use Rattle.choosing.specs.declared.Way.{Way}
 use Rattle.choosing.specs.Filed.{Filed}
 use Rattle.choosing.specs.Sizes.{Leeway}

@@ -4,7 +4,7 @@
 ghost use Rattle.std.specs.Prelude.{List, ℕ};
 ghost use Rattle.input.specs.Lent.{events_of, tree_with};
 ghost use Rattle.heaps.specs.Heaps.{Forest, forest};
-ghost use Rattle.looking.specs.Arrays.{rows_of};
+ghost use Rattle.arrays.specs.Arrays.{rows_of};
 ghost use Rattle.choosing.specs.declared.Way.{Way};
 ghost use Rattle.events.specs.State.{Coming, Fronted, Gone};
 

@@ -17,7 +17,7 @@ use Rattle.laws.proofs.Level.Heads.{has_false}
 use Rattle.laws.proofs.Tree.Paths.{at_root, parent_is_inner}
 use Rattle.laws.proofs.Tree.Depths.{kid_deeper, lower_kid}
 use Rattle.heaps.specs.Heaps.{Forest}
-use Rattle.looking.specs.Arrays.{has_head_of}
+use Rattle.arrays.specs.Arrays.{has_head_of}
 use Rattle.looking.proofs.Parts.{head_part}
 use Rattle.choosing.specs.declared.Way.{Way}
 use Rattle.choosing.specs.Filed.{Filed, Chooses, Chosen}

@@ -6,7 +6,7 @@ use Rattle.rules.specs.Box.{Rows}
 use Rattle.rules.specs.Steps.{new_head}
 use Rattle.laws.specs.Sound.{Sound}
 use Rattle.heaps.specs.Heaps.{Forest}
-use Rattle.looking.specs.Arrays.{has_head_of}
+use Rattle.arrays.specs.Arrays.{has_head_of}
 use Rattle.choosing.specs.declared.Way.{Way}
 use Rattle.choosing.specs.Filed.{Filed}
 

@@ -11,7 +11,7 @@ ghost use Rattle.input.specs.Limits.{most_rows, most_bytes};
 ghost use Rattle.input.specs.Lent.{tree_with};
 ghost use Rattle.rules.specs.Steps as steps;
 ghost use Rattle.heaps.specs.Heaps.{forest};
-ghost use Rattle.looking.specs.Arrays.{rows_of, Inside};
+ghost use Rattle.arrays.specs.Arrays.{rows_of, Inside};
 ghost use Rattle.choosing.specs.Sizes.{Leeway, most_charge};
 ghost use Rattle.hierarchy.specs.Sizes.{most_climb};
 ghost use Rattle.hierarchy.specs.Next.{next_of};

@@ -21,7 +21,7 @@ use Rattle.rules.specs.Refused.{idle, event_refused}
 use Rattle.laws.specs.Named.{class_for}
 use Rattle.laws.proofs.Event.Outset.{replicate_at}
 use Rattle.heaps.specs.Heaps.{Forest}
-use Rattle.looking.specs.Arrays.{rows_of}
+use Rattle.arrays.specs.Arrays.{rows_of}
 use Rattle.choosing.specs.declared.Way.{Way}
 use Rattle.choosing.specs.Filed.{Filed}
 use Rattle.tables.proofs.Firsts.{Plain, below_plain, stopped}

@@ -9,7 +9,7 @@ ghost use Rattle.input.specs.Limits.{most_events};
 ghost use Rattle.input.specs.Lent.{tree_at};
 ghost use Rattle.input.specs.EventRows.{no_rows};
 ghost use Rattle.heaps.specs.Heaps.{forest};
-ghost use Rattle.looking.specs.Arrays.{rows_of};
+ghost use Rattle.arrays.specs.Arrays.{rows_of};
 ghost use Rattle.checks.specs.Filed.{AllFiled};
 ghost use Rattle.pcap.specs.Lists.{Stamped, arrivals_with};
 ghost use Rattle.listing.specs.Reached.{Ground, Roomy, Reached, Turned, Lists};

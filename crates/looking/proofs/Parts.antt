@@ -11,7 +11,7 @@ use Rattle.rules.specs.declared.Why.TheVariants.{Finished, Arrived}
 use Rattle.input.specs.Classes.{Tree, child}
 use Rattle.rules.specs.Box.{Rows, has_head}
 use Rattle.rules.specs.Steps.{waits, eligible, least, raised, pick, next_start}
-use Rattle.looking.specs.Arrays.{has_head_of, waits_of, eligible_of, raised_of, next_start_of}
+use Rattle.arrays.specs.Arrays.{has_head_of, waits_of, eligible_of, raised_of, next_start_of}
 
 pub eligible_waits : (parents starts heads : List ℕ) (p v r : ℕ)
     → eligible_of parents starts heads p v r ≡ waits_of parents heads p r && leb (get_or starts r 0) v

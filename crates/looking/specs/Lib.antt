@@ -1,4 +1,3 @@
 -- What the contracts of looking for a child speak of beside the rules.
-pub mod Arrays
 pub mod Listed
 pub mod Nearest

@@ -1,7 +1,7 @@
 -- What one look through a row's children finds, and what its choice must be.
 use Rattle.std.specs.Prelude.{ℕ, zero, suc, ◌+◌, max, ◌≡◌, Bool, cond, ◌&&◌, ◌||◌, List, ltb, eqb, get_or}
 use Rattle.rules.specs.Steps.{sooner, least}
-use Rattle.looking.specs.Arrays.{has_head_of, eligible_of, raised_of}
+use Rattle.arrays.specs.Arrays.{has_head_of, eligible_of, raised_of}
 
 -- where the virtual time is v, row x goes before row y: it can be eligible sooner, or as soon and its finish is less, or as large and its head
 -- packet arrived first

@@ -14,7 +14,7 @@ use Rattle.rules.specs.Steps.{arrives as goes_in}
 use Rattle.rules.specs.Steps.{new_head, up, arrival}
 use Rattle.laws.specs.Sound.{Sound}
 use Rattle.heaps.specs.Heaps.{Forest}
-use Rattle.looking.specs.Arrays.{has_head_of}
+use Rattle.arrays.specs.Arrays.{has_head_of}
 use Rattle.looking.specs.Listed.{Listed}
 use Rattle.looking.proofs.Parts.{head_part}
 use Rattle.choosing.specs.declared.Way.TheVariants.{Looking}

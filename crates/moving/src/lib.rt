@@ -6,7 +6,7 @@ ghost use Rattle.std.specs.Prelude.{◌≡◌, List, ℕ, length, get_or};
 ghost use Rattle.input.specs.Lent.{tree_with};
 ghost use Rattle.rules.specs.Box.{Box};
 ghost use Rattle.rules.specs.Steps.{arrival, departure};
-ghost use Rattle.looking.specs.Arrays.{rows_of};
+ghost use Rattle.arrays.specs.Arrays.{rows_of};
 ghost use Rattle.queues.specs.Words.{sent_word};
 ghost use Rattle.moving.specs.Arrays.{Arrays, Arrives, Finishes, Done};
 

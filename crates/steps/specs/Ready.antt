@@ -2,7 +2,7 @@
 use Rattle.std.specs.Prelude.{ℕ, ◌≤◌, ◌^◌, List, get_or}
 use Rattle.input.specs.Limits.{most_depth}
 use Rattle.rules.specs.Box.{Rows}
-use Rattle.looking.specs.Arrays.{Inside}
+use Rattle.arrays.specs.Arrays.{Inside}
 use Rattle.hierarchy.specs.Sizes.{Small}
 use Rattle.counts.specs.Counts.{At-most, most_finished}
 

@@ -7,7 +7,7 @@ ghost use Rattle.input.specs.Limits.{most_rows, most_bytes};
 ghost use Rattle.input.specs.Lent.{tree_with};
 ghost use Rattle.rules.specs.Box.{Packet, Box};
 ghost use Rattle.rules.specs.Steps.{leaves, renews, arrival, departure};
-ghost use Rattle.looking.specs.Arrays.{rows_of};
+ghost use Rattle.arrays.specs.Arrays.{rows_of};
 ghost use Rattle.hierarchy.specs.Next.{next_of};
 ghost use Rattle.hierarchy.specs.Climbing.{front_row, front_rows};
 ghost use Rattle.counts.specs.Counts.{Counts};

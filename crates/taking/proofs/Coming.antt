@@ -10,7 +10,7 @@ use Rattle.input.specs.Classes.{Tree}
 use Rattle.input.specs.Lent.{tree_with}
 use Rattle.rules.specs.Box.{Rows, Box, left}
 use Rattle.rules.specs.Steps.{arrival, departure}
-use Rattle.looking.specs.Arrays.{rows_of}
+use Rattle.arrays.specs.Arrays.{rows_of}
 use Rattle.hierarchy.specs.Sizes.{Small}
 use Rattle.counts.specs.Counts.{Counts}
 use Rattle.steps.specs.Ready.{Ready}

@@ -3,7 +3,7 @@ use Rattle.std.specs.Prelude.{ℕ, ◌<◌, ◌≤◌, ◌≡◌, ◌≢◌, len
 use Rattle.input.specs.Limits.{most_bytes}
 use Rattle.rules.specs.Box.{Box, head, left}
 use Rattle.laws.specs.Sound.{Sender}
-use Rattle.looking.specs.Arrays.{rows_of}
+use Rattle.arrays.specs.Arrays.{rows_of}
 use Rattle.hierarchy.specs.Next.{next_of}
 use Rattle.counts.specs.Counts.{Counts}
 use Rattle.live_rules.specs.State.{Live, box_of, events}

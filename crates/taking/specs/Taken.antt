@@ -5,7 +5,7 @@ use Rattle.input.specs.declared.Event.{Event}
 use Rattle.input.specs.Limits.{most_rows, most_bytes}
 use Rattle.rules.specs.Box.{head}
 use Rattle.laws.specs.Sound.{Sender}
-use Rattle.looking.specs.Arrays.{rows_of}
+use Rattle.arrays.specs.Arrays.{rows_of}
 use Rattle.live_rules.specs.declared.LiveAnswer.{LiveAnswer}
 use Rattle.live_rules.specs.Limits.{most_held, most_accepted}
 use Rattle.live_rules.specs.Layout.{accepted_word}

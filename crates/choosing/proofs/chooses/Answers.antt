@@ -8,7 +8,7 @@ use Rattle.input.specs.Classes.{Tree}
 use Rattle.input.specs.Lent.{tree_with}
 use Rattle.rules.specs.Box.{Rows}
 use Rattle.rules.specs.Steps.{with_head}
-use Rattle.looking.specs.Arrays.{rows_of}
+use Rattle.arrays.specs.Arrays.{rows_of}
 use Rattle.choosing.specs.Sizes.{most_choice}
 use Rattle.choosing.proofs.Taking.{none_taken, one_taken}
 use Rattle.choosing.proofs.Ticks.{raised_leeway}

@@ -6,7 +6,7 @@ use mathlib.Core.List.{List}
 use Rattle.rules.specs.Box.{Rows}
 use Rattle.laws.proofs.Level.Heads.{has_true, has_false}
 use Rattle.filing.proofs.Heading.{one_aside, none_aside}
-use Rattle.looking.specs.Arrays.{rows_of}
+use Rattle.arrays.specs.Arrays.{rows_of}
 use Rattle.looking.proofs.Parts.{head_part}
 use Rattle.choosing.proofs.join.Goals as goal
 

@@ -11,7 +11,7 @@ use Rattle.input.specs.Events.{Events, count}
 use Rattle.rules.specs.Box.{Rows, Box}
 use Rattle.rules.specs.Steps.{after}
 use Rattle.heaps.specs.Heaps.{forest}
-use Rattle.looking.specs.Arrays.{rows_of}
+use Rattle.arrays.specs.Arrays.{rows_of}
 use Rattle.input.specs.Lent.{events_of, tree_at}
 use Rattle.events.specs.State.{Fit, Now, Coming}
 use Rattle.engine.specs.Served.{RowsFor}

@@ -6,7 +6,7 @@ use lib.ListN.{length, drop}
 use Rattle.rules.specs.Steps.{after}
 use Rattle.rules.specs.Outcome.{over}
 use Rattle.heaps.specs.Heaps.{forest}
-use Rattle.looking.specs.Arrays.{rows_of}
+use Rattle.arrays.specs.Arrays.{rows_of}
 use Rattle.input.specs.Lent.{events_of, tree_at}
 use Rattle.events.specs.State.{Now}
 use Rattle.engine.proofs.serve.Given as goal

@@ -8,7 +8,7 @@ use Rattle.input.specs.Events.{Events, event}
 use Rattle.input.specs.Lent.{events_of, tree_with}
 use Rattle.rules.specs.Box.{Rows}
 use Rattle.laws.proofs.Event.Turns.{Arrives}
-use Rattle.looking.specs.Arrays.{rows_of}
+use Rattle.arrays.specs.Arrays.{rows_of}
 use Rattle.events.specs.State.{Coming}
 use Rattle.events.proofs.Stepping.{ready, few_events, inside_lengths, finishes, arrives, few_rows, few_bytes, few_from, last_inside, arrived}
 use Rattle.events.proofs.Stepping.{class_few, head_some, head_inside, next_inside, next_length, next_packet, finished}

@@ -5,7 +5,7 @@ use Rattle.input.specs.Events.{Events}
 use Rattle.input.specs.Lent.{events_of, tree_with}
 use Rattle.rules.specs.Box.{Rows}
 use Rattle.heaps.specs.Heaps.{Forest, forest}
-use Rattle.looking.specs.Arrays.{rows_of}
+use Rattle.arrays.specs.Arrays.{rows_of}
 use Rattle.events.specs.State.{Coming}
 use Rattle.events.proofs.Stepping.{room, few_sent}
 use Rattle.events.proofs.step.Goals as goal

@@ -3,7 +3,7 @@
 -- Assumes nothing.
 use Prim.Native.Nat.{◌*◌}
 use Rattle.heaps.specs.Heaps.{forest}
-use Rattle.looking.specs.Arrays.{rows_of}
+use Rattle.arrays.specs.Arrays.{rows_of}
 use Rattle.choosing.specs.Sizes.{Leeway, most_choice}
 use Rattle.hierarchy.proofs.Climb.{Rising}
 use Rattle.hierarchy.proofs.up.Given as goal

@@ -6,7 +6,7 @@ use lib.ListN.{length}
 use Rattle.input.specs.Limits.{most_events}
 use Rattle.input.specs.Lent.{tree_at}
 use Rattle.heaps.specs.Heaps.{forest}
-use Rattle.looking.specs.Arrays.{rows_of}
+use Rattle.arrays.specs.Arrays.{rows_of}
 use Rattle.pcap.specs.Lists.{arrivals_with}
 use Rattle.listing.specs.Reached.{Reached}
 use Rattle.listing.proofs.list.Given as goal

@@ -11,7 +11,7 @@ use Rattle.input.specs.Events.{Events, decode}
 use Rattle.input.specs.Lent.{events_of, tree_at}
 use Rattle.rules.specs.Box.{Rows, head}
 use Rattle.heaps.specs.Heaps.{Forest, forest}
-use Rattle.looking.specs.Arrays.{rows_of}
+use Rattle.arrays.specs.Arrays.{rows_of}
 use Rattle.checks.specs.Filed.{AllFiled}
 use Rattle.checks.specs.Counted.{Meets}
 use Rattle.events.specs.State.{Coming}

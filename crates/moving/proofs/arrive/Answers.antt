@@ -7,7 +7,7 @@ use Rattle.input.specs.Classes.{Tree}
 use Rattle.input.specs.Lent.{tree_with}
 use Rattle.rules.specs.Box.{Rows}
 use Rattle.heaps.specs.Sizes.{most_heaps, most_members}
-use Rattle.looking.specs.Arrays.{rows_of}
+use Rattle.arrays.specs.Arrays.{rows_of}
 use Rattle.moving.specs.Arrays.{Arrays, Arrives}
 use Rattle.moving.proofs.Arriving.{ready, few_rows, few_from, front_climbs, front_leeway, arrived}
 use Rattle.moving.proofs.arrive.Goals as goal

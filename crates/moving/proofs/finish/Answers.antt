@@ -7,7 +7,7 @@ use Rattle.input.specs.Classes.{Tree}
 use Rattle.input.specs.Lent.{tree_with}
 use Rattle.rules.specs.Box.{Rows, left}
 use Rattle.heaps.specs.Sizes.{most_heaps, most_members}
-use Rattle.looking.specs.Arrays.{rows_of}
+use Rattle.arrays.specs.Arrays.{rows_of}
 use Rattle.moving.specs.Arrays.{Arrays, Finishes}
 use Rattle.moving.proofs.Finishing.{ready, class_few, onward_climbs, onward_leeway, finished}
 use Rattle.moving.proofs.finish.Goals as goal

@@ -1,14 +1,33 @@
--- The arrays that are lent to the steps, as the rules' rows.
+-- The arrays that are lent to the steps, as the rules' rows and tree.
 use Rattle.std.specs.Prelude.{ℕ, ◌<◌, Bool, List, [], get_or}
 use Rattle.rules.specs.declared.Why.{Why}
 use Rattle.input.specs.Limits.{most_rows}
+use Rattle.input.specs.Classes.{Tree, zeros}
 use Rattle.input.specs.Lent.{tree_with}
 use Rattle.rules.specs.Box.{Rows, has_head}
 use Rattle.rules.specs.Steps.{waits, eligible, raised, next_start}
+use Rattle.arrays.specs.declared.TreeArrays.{TreeArrays}
+use Rattle.arrays.specs.declared.RowArrays.{RowArrays}
+use Rattle.arrays.specs.declared.CountArrays.{CountArrays}
 
 abbrev pub rows_of : List ℕ → List ℕ → List ℕ → List ℕ → List ℕ → List ℕ → Rows
 rows_of starts finishes virtuals heads head_lengths head_classes =
     record { starts = starts; finishes = finishes; virtuals = virtuals; heads = heads; head_lengths = head_lengths; head_classes = head_classes }
+
+abbrev pub rows_in : RowArrays → Rows
+rows_in rows = rows_of rows.starts rows.finishes rows.virtuals rows.heads rows.head_lengths rows.head_classes
+
+-- the tree of n rows with these identifiers
+abbrev pub tree_in : ℕ → List ℕ → TreeArrays → Tree
+tree_in n identifiers tree = tree_with n identifiers tree.parents tree.depths tree.shares
+
+-- ── before anything is put in ──
+
+unfoldable pub no_tree : TreeArrays
+no_tree = record { parents = zeros; depths = zeros; shares = zeros }
+
+unfoldable pub no_counts : CountArrays
+no_counts = record { bytes = zeros; held = zeros; since = zeros; parent_since = zeros }
 
 -- every parent is a row that there can be
 abbrev pub Inside : List ℕ → Type 0
