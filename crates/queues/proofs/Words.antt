@@ -1,13 +1,13 @@
--- Words that name a packet, words that name none, and a run of those.
+-- Words that name a packet, and words that name none.
 -- Assumes nothing.
 use Prim.Native.Nat.{ℕ, zero, suc, pred, ◌-◌}
-use mathlib.Core.Path.{◌≡◌, refl, ap}
+use mathlib.Core.Path.{◌≡◌, refl}
 use mathlib.Core.Logic.{◌≢◌}
 use mathlib.Core.Bool.{Bool, true, false, not}
-use mathlib.Core.List.{List, [], ◌∷◌, ◌++◌}
+use mathlib.Core.List.{List, [], ◌∷◌}
 use native.Mathlib.Omega.{arith}
 use lib.Dec.{eqb}
-use lib.ListN.{get_or, set, replicate}
+use lib.ListN.{get_or, set}
 use borrow.Author.Tests.{eq-eqb, ne_eqb}
 use Rattle.rules.specs.Box.{Rows, head, has_head}
 use Rattle.rules.specs.Steps.{sent}
@@ -57,8 +57,3 @@ sent_arrived a b = rw (not_not (eqb (head a 0) 0))
 pub sent_finished : (a b : Rows) → head a 0 ≡ 0 → sent a b ≡ sent_word true (head b 0)
 unfolding sent sent_word has_head
 sent_finished a b none = rw none
-
--- a 0 more
-pub replicate_more : (n : ℕ) → ◌≡◌ {A = List ℕ} (replicate (suc n) 0) (replicate n 0 ++ 0 ∷ [])
-replicate_more zero = refl
-replicate_more (suc n) = ap (λ (xs : List ℕ). 0 ∷ xs) (replicate_more n)

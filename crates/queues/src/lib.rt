@@ -1,4 +1,6 @@
 // The queues as links in the lent working slice, and the order as it is written: what an event does to words that name packets.
+// A word is a place + 1, or 0 for none, and no Option: C's caller lends words. The lasts and the slice stand side by side: a struct
+// with a lent slice in it would say in each contract that it is the same slice still, and is no plainer.
 #![tactic(auto)]
 
 ghost use Rattle.std.specs.Prelude.{◌≡◌, ◌+◌, ◌-◌, ◌≤◌, ◌<◌, get_or, set, replicate};
@@ -15,11 +17,7 @@ pub fn clear(working: &mut [u32], n: usize)
     requires { n ≤ lists.length working.old }
     ensures { working.new ≡ over (replicate n 0) working.old }
 {
-    let mut i = 0;
-    while i < n {
-        working[i] = 0;
-        i += 1;
-    }
+    working[..n].fill(0);
 }
 
 // The packet that a word names is followed by another; where it names none there is nothing to do.

@@ -1,29 +1,10 @@
--- `queues::clear` meets its contract. The loop's invariant: as many words as were passed are 0, over what was lent.
+-- `queues::clear` meets its contract.
 -- Assumes nothing.
-use mathlib.Core.Path.{◌≡◌, refl}
-use mathlib.Core.List.{[], ◌∷◌}
-use native.Mathlib.Numerals.{add-one}
-use native.Mathlib.Omega.{arith}
-use borrow.Author.Rules.{rules}
-use lib.ListN.{replicate, length-replicate, length-set}
+use lib.ListN.{length-replicate}
+use Rattle.std.proofs.lemmas.List.{length-take-le}
 use Rattle.rules.specs.Outcome.{over}
-use Rattle.rules.proofs.Over.{over_more}
-use Rattle.queues.proofs.Words.{replicate_more}
 use Rattle.queues.proofs.clear.Goals as goal
 
-pub loop-i-init : goal.loop-i-init
-unfolding over
-loop-i-init c = (search rules, refl, refl)
-
-pub loop-i-preserved : goal.loop-i-preserved
-loop-i-preserved c =
-    let i = c.loop-i.i in (
-      search rules,
-      rw (add-one, replicate_more) (over_more (replicate i 0) (0 ∷ []) _ _ i (length-replicate i 0) (omega arith) c.loop-i.invariant.1),
-      simp length-set c.loop-i.invariant.2,
-    )
-
 pub returns : goal.returns
-returns c =
-    let all : c.loop-i.i ≡ c.args.n = omega arith in
-    rw (← all) c.loop-i.invariant.1
+unfolding over
+returns c = rw (c.fill.ensures.after (λ y same. same), length-take-le c.args.n c.args.working.now c.requires, length-replicate)
