@@ -20,7 +20,7 @@ use Rattle.arrays.specs.Arrays.{rows_of}
 use Rattle.choosing.specs.declared.Way.{Way}
 use Rattle.choosing.specs.Filed.{Filed}
 use Rattle.laws.proofs.Run.Sizes.{since_below, parent_since_below}
-use Rattle.counts.specs.Counts.{At-most, most_finished}
+use Rattle.counts.specs.Counts.{AtMost, most_finished}
 use Rattle.report.specs.Shown.{Shown}
 use Rattle.report.specs.Lags.{Past}
 use Rattle.events.specs.Links.{last_word, Chain}
@@ -113,5 +113,5 @@ module _
     pub past_now : Past tree.rows tree.parents bytes since parent_since
     past_now = rw (← now.counts_are.bytes, ← now.counts_are.since, ← now.counts_are.parent_since) (past tree events fit)
 
-    pub bytes_now : At-most most_finished bytes
+    pub bytes_now : AtMost most_finished bytes
     bytes_now r inside = rw (← now.counts_are.bytes) (bytes_small tree events fit (count events) (omega arith) r)

@@ -2,7 +2,7 @@
 use Rattle.std.specs.Prelude.{ℕ, ◌-◌, ◌≤◌, ◌<◌, ◌≡◌, false, List, get_or, ℤ}
 use Rattle.input.specs.Limits.{most_rows, whole}
 use Rattle.rules.specs.Outcome.{report_of, lags_of, over}
-use Rattle.counts.specs.Counts.{At-most, most_finished}
+use Rattle.counts.specs.Counts.{AtMost, most_finished}
 use Rattle.report.specs.Lags.{Past}
 use Rattle.live_rules.specs.State.{Live, box_of}
 use Rattle.state.specs.declared.State.{State}
@@ -11,9 +11,9 @@ use Rattle.state.specs.declared.State.{State}
 pub record Tellable (r : State) : Type 0 where
   pub few : r.rows ≤ most_rows
   pub root : 0 < r.rows → get_or r.senders 0 false ≡ false
-  pub parents : At-most (most_rows - 1) r.parents
-  pub shares : At-most whole r.shares
-  pub bytes : At-most most_finished r.bytes
+  pub parents : AtMost (most_rows - 1) r.parents
+  pub shares : AtMost whole r.shares
+  pub bytes : AtMost most_finished r.bytes
   pub past : Past r.rows r.parents r.bytes r.since r.parent_since
 
 -- the rows in use are told of, the words after them stay

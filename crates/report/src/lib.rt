@@ -8,7 +8,7 @@ ghost use Rattle.input.specs.Limits.{most_rows, whole, report_words};
 ghost use Rattle.input.specs.Classes.{Tree};
 ghost use Rattle.rules.specs.Box.{Box};
 ghost use Rattle.rules.specs.Outcome.{report_of, lag, lags_of, over};
-ghost use Rattle.counts.specs.Counts.{At-most, most_finished, Counts};
+ghost use Rattle.counts.specs.Counts.{AtMost, most_finished, Counts};
 ghost use Rattle.report.specs.Shown.{Sending, Shown, row_words};
 ghost use Rattle.report.specs.Lags.{Shares, Past};
 
@@ -139,9 +139,9 @@ fn lag_at(
     parent_since: &RowLongs,
 ) -> i64
     requires r_is_row { r < most_rows }
-    requires parents_inside { At-most (most_rows - 1) parents.now }
-    requires shares_allowed { At-most whole shares.now }
-    requires bytes_small { At-most most_finished bytes.now }
+    requires parents_inside { AtMost (most_rows - 1) parents.now }
+    requires shares_allowed { AtMost whole shares.now }
+    requires bytes_small { AtMost most_finished bytes.now }
     requires past { Past (suc r) parents.now bytes.now since.now parent_since.now }
     ensures { (tree : Tree) (box : Box) →
         Shares tree parents.now shares.now →
@@ -174,9 +174,9 @@ pub fn write_lags(
 )
     requires rows_few { rows ≤ most_rows }
     requires lags_room { rows ≤ length lags.old }
-    requires parents_inside { At-most (most_rows - 1) parents.now }
-    requires shares_allowed { At-most whole shares.now }
-    requires bytes_small { At-most most_finished bytes.now }
+    requires parents_inside { AtMost (most_rows - 1) parents.now }
+    requires shares_allowed { AtMost whole shares.now }
+    requires bytes_small { AtMost most_finished bytes.now }
     requires past { Past rows parents.now bytes.now since.now parent_since.now }
     ensures { (tree : Tree) (box : Box) →
         Shares tree parents.now shares.now →
