@@ -4,5 +4,6 @@ pub mod Tests
 pub mod Places
 pub mod OneRow
 pub mod Firsts
+pub mod Judging
 pub mod Answering
 pub mod Unique

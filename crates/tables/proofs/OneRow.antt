@@ -11,31 +11,26 @@ use lib.Dec.{eqb}
 use lib.ListN.{length, get_or, set}
 use lib.Seq.{get_or-set_other}
 use borrow.Author.Tests.{ne_eqb}
+use Rattle.std.specs.Prelude.{Option}
+use Rattle.arrays.specs.declared.TreeArrays.{TreeArrays}
 use Rattle.input.specs.declared.Refusal.{Refusal}
 use Rattle.input.specs.Limits.{most_rows}
 use Rattle.input.specs.Classes.{Table, earlier, parent_of, with_row, read, tree_of, depth}
-use Rattle.input.specs.Refusals.{or_else, first_below, root_refused, class_refused, row_refused}
+use Rattle.input.specs.Refusals.{root_refused, class_refused, row_refused}
 use Rattle.laws.proofs.Path.Tests.{cond_most}
 use Rattle.laws.proofs.Tree.Trees.{depth_read, depth_at}
 use Rattle.laws.proofs.Event.Outset.{zeros_at}
 use Rattle.tables.specs.declared.Row.{Row}
 use Rattle.tables.specs.declared.Rows.{Rows}
 use Rattle.tables.specs.Sized.{Sized}
-use Rattle.tables.specs.Answers.{row_read, below, rows_read}
+use Rattle.tables.specs.Judged.{verdict}
+use Rattle.tables.specs.Answers.{row_read, verdicts, rows_read}
 
-abbrev row_of : Refusal → ℕ → ℕ → Row
+abbrev row_of : Option Refusal → ℕ → ℕ → Row
 row_of refusal parent depth = record { refusal = refusal; parent = parent; depth = depth }
 
-abbrev pub rows_of : Refusal → List ℕ → List ℕ → List ℕ → List ℕ → List ℕ → Rows
-rows_of refusal numbers seconds parents depths shares =
-    record {
-      refusal = refusal;
-      numbers = numbers;
-      seconds = seconds;
-      parents = parents;
-      depths = depths;
-      shares = shares;
-    }
+abbrev pub rows_with : List (Option Refusal) → TreeArrays → Rows
+rows_with refusals tree = record { refusals = refusals; tree = tree }
 
 -- a depth is at most the number of rows that are read
 pub depth_small : (table : Table) (n j : ℕ) → n ≤ most_rows → depth (read table n) j ≤ n
@@ -55,7 +50,7 @@ module _ (table : Table) (sized : Sized table) where
   unfolding tree_of
   depth_found r inside = depth_at table (length table.identifiers) sized.most r inside
 
-  pub root_row : (r : ℕ) → r ≡ 0 → (refusal : Refusal) (parent : ℕ) → refusal ≡ root_refused table → parent ≡ parent_of table r
+  pub root_row : (r : ℕ) → r ≡ 0 → (refusal : Option Refusal) (parent : ℕ) → refusal ≡ verdict (root_refused table) → parent ≡ parent_of table r
       → row_of refusal parent 0 ≡ row_read table r
   unfolding row_read row_refused depth_read
   root_row zero at refusal parent e1 e2 = rw (e1, e2, depth_found 0 sized.some) refl
@@ -70,8 +65,8 @@ module _ (table : Table) (sized : Sized table) where
 
   pub class_row : (r : ℕ) → r < length table.identifiers → r ≢ 0
       → (depths : List ℕ) → depths ≡ (read table r).depths
-      → (refusal : Refusal) (parent other : ℕ) → parent ≡ parent_of table r → other ≡ earlier table r (get_or table.identifiers r 0)
-      → refusal ≡ class_refused r (get_or table.identifiers r 0) other parent (get_or table.shares r 0) (get_or depths parent 0 + 1)
+      → (refusal : Option Refusal) (parent other : ℕ) → parent ≡ parent_of table r → other ≡ earlier table r (get_or table.identifiers r 0)
+      → refusal ≡ verdict (class_refused r (get_or table.identifiers r 0) other parent (get_or table.shares r 0) (get_or depths parent 0 + 1))
       → row_of refusal parent (get_or depths parent 0 + 1) ≡ row_read table r
   unfolding row_read depth_read
   class_row r inside below depths eDepths refusal parent other eParent eOther eRefusal =
@@ -81,8 +76,12 @@ module _ (table : Table) (sized : Sized table) where
 
   -- one row more
   pub rows_more : (r : ℕ) → r < length table.identifiers → (rows : Rows) (row : Row) → rows ≡ rows_read table r → row ≡ row_read table r
-      → rows_of (or_else rows.refusal row.refusal) (set rows.numbers r row.refusal.number) (set rows.seconds r row.refusal.second)
-      (set rows.parents r row.parent) (set rows.depths r row.depth) (set rows.shares r (get_or table.shares r 0))
+      → rows_with (set rows.refusals r row.refusal)
+      (record {
+        parents = set rows.tree.parents r row.parent;
+        depths = set rows.tree.depths r row.depth;
+        shares = set rows.tree.shares r (get_or table.shares r 0);
+      })
       ≡ rows_read table (suc r)
-  unfolding rows_read row_read first_below below read with_row depth_read
+  unfolding rows_read row_read verdicts read with_row depth_read
   rows_more r inside rows row eRows eRow = rw (eRows, eRow, depth_found r inside) refl

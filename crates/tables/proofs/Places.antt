@@ -5,10 +5,12 @@ use mathlib.Core.Path.{◌≡◌, refl, sym, ◌∙◌, ap}
 use mathlib.Core.Logic.{◌≢◌}
 use mathlib.Core.List.{List, [], ◌∷◌}
 use native.Mathlib.Omega.{arith}
-use lib.ListN.{length, get_or, take}
-use lib.Seq.{get_or-take, length-take-le}
+use lib.ListN.{length, get_or}
 use borrow.Author.Tests.{eq-eqb, ne_eqb}
+use Rattle.std.specs.Prelude.{Option, None, Some}
+use Rattle.std.specs.Option.{unwrap_or}
 use Rattle.input.specs.Classes.{place_of}
+use Rattle.tables.specs.Stated.{Finds}
 
 place_here : (x y : ℕ) (ys : List ℕ) → y ≡ x → place_of x (y ∷ ys) ≡ 0
 unfolding place_of
@@ -31,16 +33,7 @@ found_none x [] none = refl
 found_none x (y ∷ ys) none =
     place_later x y ys (none 0 (omega arith)) ∙ ap suc (found_none x ys (λ j below. none (suc j) (omega arith)))
 
-module _ (x : ℕ) (words : List ℕ) (n : ℕ) (within : n ≤ length words) where
-  -- of the first n words those before i are not x, and the next one is
-  pub place_found : (i : ℕ) → i < n → ((j : ℕ) → j < i → get_or words j 0 ≢ x) → get_or words i 0 ≡ x → place_of x (take n words) ≡ i
-  place_found i inside before here =
-      found_at x (take n words) i (rw (length-take-le n words within) inside) (get_or-take n words i 0 inside ∙ here)
-      (λ j below same. before j below (sym (get_or-take n words j 0 (omega arith)) ∙ same))
-
-  -- or none of them is
-  pub place_none : ((j : ℕ) → j < n → get_or words j 0 ≢ x) → place_of x (take n words) ≡ n
-  place_none none =
-      found_none x (take n words)
-      (λ j below same. let few = rw (length-take-le n words within) at below in none j few (sym (get_or-take n words j 0 few) ∙ same))
-      ∙ length-take-le n words within
+-- the row that was found, or how many there are
+pub found_or : (xs : List ℕ) (class n : ℕ) (o : Option ℕ) → n ≡ length xs → Finds xs class o → (unwrap_or o n ≡ place_of class xs) × (unwrap_or o n ≤ n)
+found_or xs class n (Some r) same finds = (finds.0, let inside = finds.1 in omega arith)
+found_or xs class n None same finds = (same ∙ sym finds, omega arith)

@@ -9,7 +9,7 @@ use Rattle.tables.proofs.has_child.Goals as goal
 
 pub loop-r-init : goal.loop-r-init
 unfolding has_child
-loop-r-init c = (omega arith, λ tree e. refl)
+loop-r-init c tree e = refl
 
 pub returns-then-child : goal.returns-then-child
 returns-then-child c tree e =
@@ -18,12 +18,9 @@ returns-then-child c tree e =
 
 pub loop-r-preserved : goal.loop-r-preserved
 unfolding has_child
-loop-r-preserved c = (
-  omega arith,
-  λ tree e. rw (add-one, c.loop-r.invariant.1 tree e, ← c.child.ensures tree e, c.if-child.false),
-)
+loop-r-preserved c tree e = rw (add-one, c.loop-r.invariant tree e, ← c.child.ensures tree e, c.if-child.false)
 
 pub returns : goal.returns
 returns c tree e =
     let end : c.loop-r.r ≡ c.args.rows = omega arith in
-    rw (← end) (sym (c.loop-r.invariant.1 tree e))
+    rw (← end) (sym (c.loop-r.invariant tree e))

@@ -2,35 +2,26 @@
 -- Assumes nothing.
 use mathlib.Core.Path.{refl}
 use Rattle.input.specs.Classes.{Table, tree_of}
-use Rattle.input.specs.Refusals.{table_refused}
+use Rattle.input.specs.Refusals.{rows_refused, table_refused}
 use Rattle.input.specs.Lent.{table_of}
-use Rattle.tables.specs.Answers.{reading}
-use Rattle.tables.proofs.Firsts.{or_else_first, or_else_second}
-use Rattle.tables.proofs.Answering.{answer_refuses, sized}
+use Rattle.tables.specs.Answers.{accepting}
+use Rattle.tables.proofs.Judging.{handed, at_first, at_second}
+use Rattle.tables.proofs.Answering.{sized}
 use Rattle.tables.proofs.read_table.Goals as goal
 
-pub returns-then-refusal-ne0 : goal.returns-then-refusal-ne0
-unfolding reading
-returns-then-refusal-ne0 c =
-    let t = (let it : Table = table_of c.args.identifiers.now c.args.parent_identifiers.now c.args.shares.now in it) in
-    let first = c.rows_refused-refusal in
-    rw (
-      ← first.ensures t refl refl refl,
-      or_else_first first.result (table_refused t) c.if-refusal-ne0.true,
-      answer_refuses first.result
-          (tree_of t) c.if-refusal-ne0.true,
-    )
-    c.refusing.ensures
+pub returns-in_err-rows_refused : goal.returns-in_err-rows_refused
+returns-in_err-rows_refused c =
+    let t : Table = table_of c.args.identifiers.now c.args.parent_identifiers.now c.args.shares.now in
+    handed _ (accepting (tree_of t)) c.from_residual.result _ c.from_residual.ensures.1
+    (at_first (rows_refused t) (table_refused t) _ (c.in_err-rows_refused.ensures t refl refl refl))
 
 pub read_sized-requires : goal.read_sized-requires
 read_sized-requires c =
-    let t = (let it : Table = table_of c.args.identifiers.now c.args.parent_identifiers.now c.args.shares.now in it) in
-    let first = c.rows_refused-refusal in
-    sized t (rw (← first.ensures t refl refl refl) c.if-refusal-ne0.false)
+    let t : Table = table_of c.args.identifiers.now c.args.parent_identifiers.now c.args.shares.now in
+    sized t (c.in_ok-rows_refused.ensures t refl refl refl).0
 
 pub returns : goal.returns
-unfolding reading
 returns c =
-    let t = (let it : Table = table_of c.args.identifiers.now c.args.parent_identifiers.now c.args.shares.now in it) in
-    let first = c.rows_refused-refusal in
-    rw (← first.ensures t refl refl refl, or_else_second first.result (table_refused t) c.if-refusal-ne0.false) c.read_sized.ensures
+    let t : Table = table_of c.args.identifiers.now c.args.parent_identifiers.now c.args.shares.now in
+    at_second (rows_refused t) (table_refused t) (accepting (tree_of t)) c.read_sized.result
+    (c.in_ok-rows_refused.ensures t refl refl refl).0 c.read_sized.ensures
