@@ -4,3 +4,4 @@ pub mod Order
 pub mod Trees
 pub mod Links
 pub mod Heaps
+pub mod Kept
