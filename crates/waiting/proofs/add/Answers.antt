@@ -4,10 +4,10 @@ use borrow.Author.Tests.{le-leb, lt-leb}
 use Rattle.waiting.specs.Waiting.{added}
 use Rattle.waiting.proofs.add.Goals as goal
 
-pub returns-then-starts-x : goal.returns-then-starts-x
+pub returns-then-rows-x : goal.returns-then-rows-x
 unfolding added
-returns-then-starts-x c = rw (le-leb _ _ c.if-starts-x.true) c.insert.ensures
+returns-then-rows-x c = rw (le-leb _ _ c.if-rows-x.true) c.insert.ensures
 
-pub returns-else-starts-x : goal.returns-else-starts-x
+pub returns-else-rows-x : goal.returns-else-rows-x
 unfolding added
-returns-else-starts-x c = rw (lt-leb _ _ c.if-starts-x.false) c.insert-else-starts-x.ensures
+returns-else-rows-x c = rw (lt-leb _ _ c.if-rows-x.false) c.insert-else-rows-x.ensures

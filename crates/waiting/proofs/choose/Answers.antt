@@ -6,4 +6,4 @@ use Rattle.waiting.proofs.choose.Goals as goal
 
 pub returns : goal.returns
 unfolding child_of rest_of
-returns c = let time = c.raise-time.ensures c.args.left.now c.args.right.now in let all = ready_at _ _ _ _ _ _ _ _ time c.ripen.ensures in record { child = rw (← all) c.take-child.ensures.root; time = time; forest_after = rw (← all) c.take-child.ensures.forest_after }
+returns c = let time = c.raise-time.ensures in let all = ready_at _ _ _ _ _ _ _ _ time c.ripen.ensures in record { child = rw (← all) c.take-child.ensures.root; time = time; forest_after = rw (← all) c.take-child.ensures.forest_after }
