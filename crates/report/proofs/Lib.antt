@@ -1,4 +1,3 @@
--- A row's report and its lag, from the lists that they are read from, and signed words.
+-- A row's report and its lag, from the arrays that they are read from.
 pub mod Rows
 pub mod Lags
-pub mod Signed

@@ -1,8 +1,6 @@
 -- `report::write_lags` meets its contract. The loop's invariant: the lags of the rows passed are written over what was lent.
 -- Assumes nothing.
-use Prim.Native.Nat.{◌≤◌, ◌-◌}
 use mathlib.Core.Path.{◌≡◌}
-use lib.ListN.{length}
 use Rattle.input.specs.Classes.{Tree}
 use Rattle.rules.specs.Box.{Box}
 use Rattle.rules.specs.Outcome.{lags_of, over}
@@ -11,10 +9,4 @@ use Rattle.report.specs.Lags.{Shares}
 use Rattle.report.proofs.write_lags.Given as goal
 
 abbrev pub invariant-loop-r : goal.invariant-loop-r
-invariant-loop-r l =
-    (l.r ≤ l.rows)
-    × (length l.lags ≡ length l.initial.lags)
-    × ((tree : Tree) (box : Box) → Shares tree l.parents l.shares → Counts box l.bytes l.held l.since l.parent_since → l.lags ≡ over (lags_of tree box l.r) l.initial.lags)
-
-abbrev pub decreases-loop-r : goal.decreases-loop-r
-decreases-loop-r l = l.rows - l.r
+invariant-loop-r l = (tree : Tree) (box : Box) → Shares tree l.tree → Counts box l.counts → l.lags ≡ over (lags_of tree box l.r) l.initial.lags
