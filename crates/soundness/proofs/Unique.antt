@@ -9,11 +9,13 @@ use Rattle.words.specs.Unique.{Unique}
 use Rattle.words.proofs.Determined.{determined}
 use Rattle.input.specs.Limits.{most_rows}
 use Rattle.input.specs.Lent.{tree_with}
+use Rattle.arrays.specs.declared.TreeArrays.{TreeArrays}
+use Rattle.arrays.specs.Arrays.{tree_in}
 use Rattle.live_rules.specs.Soundness.{tree_sound}
 use Rattle.soundness.specs.Trees.{Senders, Sums, TreeSound}
 
-pub one_tree_verdict : (n : ℕ) (identifiers parents depths shares : List ℕ) → Unique (TreeSound n identifiers parents depths shares)
-one_tree_verdict n identifiers parents depths shares = determined (tree_sound (tree_with n (take n identifiers) parents depths shares))
+pub one_tree_verdict : (n : ℕ) (identifiers : List ℕ) (tree : TreeArrays) → Unique (TreeSound n identifiers tree)
+one_tree_verdict n identifiers tree = determined (tree_sound (tree_in n (take n identifiers) tree))
 
 pub same_senders : (n : ℕ) (parents : List ℕ) (one other : List Bool) → Senders n parents one → Senders n parents other
     → (r : ℕ) → r < n → get_or one r false ≡ get_or other r false

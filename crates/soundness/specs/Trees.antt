@@ -1,9 +1,10 @@
 -- What the tests of a tree promise, over the arrays that they are lent.
-use Rattle.std.specs.Prelude.{ℕ, ◌<◌, ◌≡◌, Bool, false, List, get_or, take}
+use Rattle.std.specs.Prelude.{ℕ, ◌<◌, ◌≡◌, Bool, false, ◌&&◌, ◌||◌, List, eqb, get_or, take}
 use Rattle.input.specs.Limits.{most_rows}
 use Rattle.input.specs.Classes.{Tree, sends}
-use Rattle.input.specs.Lent.{tree_with}
-use Rattle.live_rules.specs.Soundness.{all, named, children_sum, tree_sound}
+use Rattle.arrays.specs.declared.TreeArrays.{TreeArrays}
+use Rattle.arrays.specs.Arrays.{tree_in}
+use Rattle.live_rules.specs.Soundness.{all, named, root_sound, class_sound, children_sum, tree_sound}
 
 -- every row below n has a parent that is a row that there can be
 abbrev pub Inside : ℕ → List ℕ → Type 0
@@ -21,5 +22,11 @@ Sums n parents xs sums =
 abbrev pub Named : ℕ → List ℕ → Bool → Type 0
 Named n identifiers b = (tree : Tree) → tree.rows ≡ n → tree.identifiers ≡ take n identifiers → b ≡ all n (named tree)
 
-abbrev pub TreeSound : ℕ → List ℕ → List ℕ → List ℕ → List ℕ → Bool → Type 0
-TreeSound n identifiers parents depths shares b = b ≡ tree_sound (tree_with n (take n identifiers) parents depths shares)
+-- the tests of a tree but what children have together
+abbrev pub RowsSound : ℕ → List ℕ → TreeArrays → Bool → Type 0
+RowsSound n identifiers tree b =
+    let whole_tree = tree_in n (take n identifiers) tree in
+    b ≡ (root_sound whole_tree && (all n (named whole_tree) && all n (λ r. eqb r 0 || class_sound whole_tree r)))
+
+abbrev pub TreeSound : ℕ → List ℕ → TreeArrays → Bool → Type 0
+TreeSound n identifiers tree b = b ≡ tree_sound (tree_in n (take n identifiers) tree)

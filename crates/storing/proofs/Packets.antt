@@ -2,6 +2,7 @@
 -- Assumes nothing.
 use Prim.Native.Nat.{ℕ, zero, suc, ◌+◌, ◌≤◌, ◌<◌, ◌^◌}
 use mathlib.Core.Path.{◌≡◌, refl, sym, ap, ◌∙◌}
+use mathlib.Core.Logic.{◌≢◌}
 use mathlib.Core.Bool.{Bool, true, false, cond}
 use mathlib.Core.List.{List, [], ◌∷◌, ◌++◌, map, append-nil, append_assoc}
 use native.Mathlib.Numerals.{add-one}
@@ -18,7 +19,12 @@ use Rattle.live_rules.specs.State.{Held, packets_at, packets_stored, queue}
 use Rattle.live_rules.specs.Taking.{without}
 use Rattle.live_rules.proofs.Stretches.{words_length, words_get, words_fewer, words_late, sets_same, sets_snoc, get_late}
 use Rattle.live_rules.proofs.Packets.{packet_in, packets_length, packets_get, class_in, length_in, name_in, classes_listed, lengths_listed, names_listed}
-use Rattle.storing.specs.Packets.{place_of, left_out, Worded}
+use Rattle.std.specs.Prelude.{Option, None, Some}
+use Rattle.std.specs.Option.{MatchOption, unwrap_or}
+use Rattle.std.specs.List.{AllWithin, HoldsAt}
+use Rattle.std.proofs.lemmas.Iterator.{index_from_first}
+use Rattle.std.proofs.lemmas.List.{length-map}
+use Rattle.storing.specs.Packets.{Finds, place_of, left_out, Worded}
 
 -- ── one list without a word: the gap is closed word by word ──
 
@@ -206,6 +212,39 @@ place_named name (p ∷ ps) d inside = go (eqb p.name name) refl inside (place_n
     go true same within later = eqb-true p.name name same
     go false other within later = later (omega arith)
 
+-- the index of a name among the words of the names
+place_in : ℕ → List ℕ → ℕ
+place_in name [] = 0
+place_in name (x ∷ xs) = cond (eqb x name) 0 (place_in name xs + 1)
+
+place_listed : (name : ℕ) (ps : List Held) → place_in name (map (λ (p : Held). p.name) ps) ≡ place_of name ps
+unfolding place_in place_of
+place_listed name [] = refl
+place_listed name (p ∷ ps) = rw (place_listed name ps, add-one (place_of name ps))
+
+-- the first of the words that is the name is the packet's
+pub finds_first :
+    (name : ℕ) (ps : List Held) (words : List ℕ) (r : Option ℕ) → words ≡ map (λ (p : Held). p.name) ps
+    → MatchOption r (AllWithin (λ x. x ≢ name) words 0 (length words))
+    (λ i. (i < length words) × HoldsAt (λ x. x ≡ name) words i × AllWithin (λ x. x ≢ name) words 0 i)
+    → Finds name ps r
+unfolding place_in
+finds_first name ps words r listed first =
+    let long : length words ≡ length ps = rw listed (length-map ps (λ (p : Held). p.name)) in
+    let at : place_of name ps ≡ unwrap_or r (length words) =
+    sym (place_listed name ps) ∙ rw (← listed) (index_from_first (place_in name) (λ x. x ≡ name) (λ x. x ≢ name) refl
+    (λ x xs here. rw (eq-eqb x name here))
+    (λ x xs other. rw (ne_eqb x name other)) words r first) in
+    told long r first at
+  where
+    told :
+        length words ≡ length ps → (v : Option ℕ)
+        → MatchOption v (AllWithin (λ x. x ≢ name) words 0 (length words))
+        (λ i. (i < length words) × HoldsAt (λ x. x ≡ name) words i × AllWithin (λ x. x ≢ name) words 0 i)
+        → place_of name ps ≡ unwrap_or v (length words) → Finds name ps v
+    told long None none at = omega (arith, long, at)
+    told long (Some i) some at = (omega (arith, some.0, long), sym at)
+
 module _ (m : ℕ) (words : List ℕ) where
   nobody : Held
   nobody = record { class = 0; length = 0; name = 0 }
@@ -222,21 +261,6 @@ module _ (m : ℕ) (words : List ℕ) where
   packets_past i past =
       let long = packets_length m words in
       drop_of_length-le all_packets {i = i} (omega arith)
-
-  module _ (name : ℕ) where
-    pub found_here : (i : ℕ) → i < m → get_or words (names_at + i) 0 ≡ name → place_of name (drop i all_packets) ≡ 0
-    unfolding place_of
-    found_here i within same = rw (packets_from i within, name_in i words, eq-eqb (get_or words (names_at + i) 0) name same)
-
-    pub found_later :
-        (i : ℕ) → i < m → (get_or words (names_at + i) 0 ≡ name → ⊥)
-        → place_of name (drop i all_packets) ≡ suc (place_of name (drop (suc i) all_packets))
-    unfolding place_of
-    found_later i within other = rw (packets_from i within, name_in i words, ne_eqb (get_or words (names_at + i) 0) name other)
-
-    pub found_none : (i : ℕ) → m ≤ i → place_of name (drop i all_packets) ≡ 0
-    unfolding place_of
-    found_none i past = rw (packets_past i past)
 
   -- ── the next packet of a class ──
 

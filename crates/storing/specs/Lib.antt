@@ -1,2 +1,3 @@
 -- What the contracts of storing speak of.
 pub mod Packets
+pub mod Counted

@@ -1,5 +1,5 @@
 -- Packets held: which one has a name, and the list without one.
-use Rattle.std.specs.Prelude.{ℕ, suc, ◌+◌, ◌≤◌, ◌<◌, ◌^◌, cond, List, [], ◌∷◌, ◌++◌, eqb, take, drop}
+use Rattle.std.specs.Prelude.{ℕ, suc, ◌+◌, ◌≤◌, ◌<◌, ◌^◌, ◌≡◌, cond, Option, MatchOption, length, List, [], ◌∷◌, ◌++◌, eqb, take, drop}
 use Rattle.input.specs.Limits.{most_bytes}
 use Rattle.live_rules.specs.State.{Held}
 
@@ -16,3 +16,7 @@ left_out i xs = take i xs ++ drop (suc i) xs
 unfoldable pub Worded : List Held → Type 0
 Worded [] = Unit
 Worded (packet ∷ later) = (packet.name + 1 < 2 ^ 32) × (packet.length ≤ most_bytes) × Worded later
+
+-- what `find_packet` states of its result: the place of a packet that is held, or that there is none
+abbrev pub Finds : ℕ → List Held → Option ℕ → Type 0
+Finds name packets result = MatchOption result (length packets ≤ place_of name packets) (λ i. (i < length packets) × (i ≡ place_of name packets))

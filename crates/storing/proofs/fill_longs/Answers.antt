@@ -1,23 +1,15 @@
--- `fill_longs` meets its contract: a row more at each turn.
+-- `fill_longs` meets its contract: the words, and the zeros behind them.
 -- Assumes nothing.
-use Prim.Native.Nat.{◌-◌}
-use mathlib.Core.Path.{◌≡◌, refl, ◌∙◌}
-use Rattle.input.specs.Classes.{zeros}
-use Rattle.live_rules.proofs.Rows.{rows_none}
-use Rattle.storing.proofs.Turns.{read_turn}
+use Prim.Native.Nat.{◌+◌, ◌-◌}
+use mathlib.Core.Path.{◌≡◌, refl, ap, ◌∙◌}
 use native.Mathlib.Omega.{arith}
+use Rattle.live_rules.specs.Layout.{words_at}
+use Rattle.live_rules.proofs.Rows.{rows_split}
 use Rattle.storing.proofs.fill_longs.Goals as goal
 
-pub loop-r-init : goal.loop-r-init
-unfolding zeros
-loop-r-init c = (omega arith, c.requires.list_zero ∙ rows_none c.args.at c.args.state.now)
-
-pub loop-r-preserved : goal.loop-r-preserved
-loop-r-preserved c =
-    let s = c.args in
-    (omega arith, read_turn c.loop-r.list s.state.now s.at c.loop-r.r _ (omega arith) (omega arith) refl c.loop-r.invariant.1)
-
 pub returns : goal.returns
+unfolding words_at
 returns c =
-    let end : c.loop-r.r ≡ c.args.n = omega arith in
-    rw (← end) c.loop-r.invariant.1
+    let s = c.args in
+    let e : s.at + s.n - s.at ≡ s.n = omega arith in
+    rw (rows_split s.at s.n s.state.now (omega arith), ← c.requires.list_zero, c.copy_from_slice.ensures.after, e) refl

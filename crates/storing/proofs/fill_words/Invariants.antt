@@ -10,7 +10,4 @@ use Rattle.live_rules.specs.Soundness.{all}
 use Rattle.storing.proofs.fill_words.Given as goal
 
 abbrev pub invariant-loop-r : goal.invariant-loop-r
-invariant-loop-r l = (l.r ≤ l.n) × (all l.r (λ (i : ℕ). leb (get_or l.state (l.at + i) 0) l.most) ≡ true) × (l.list ≡ rows_at l.at l.r l.state)
-
-abbrev pub decreases-loop-r : goal.decreases-loop-r
-decreases-loop-r l = l.n - l.r
+invariant-loop-r l = (all l.r (λ (i : ℕ). leb (get_or l.state (l.at + i) 0) l.most) ≡ true) × (l.list ≡ rows_at l.at l.r l.state)

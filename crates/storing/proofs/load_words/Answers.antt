@@ -4,6 +4,6 @@ use mathlib.Core.Path.{refl}
 use Rattle.input.specs.Classes.{zeros}
 use Rattle.storing.proofs.load_words.Goals as goal
 
-pub fill_words-fits-requires : goal.fill_words-fits-requires
+pub fill_words-requires : goal.fill_words-requires
 unfolding zeros
-fill_words-fits-requires c = record { rows_few = c.requires.rows_few; state_room = c.requires.state_room; most_small = c.requires.most_small; list_zero = refl }
+fill_words-requires c = record { rows_few = c.requires.rows_few; state_room = c.requires.state_room; most_small = c.requires.most_small; list_zero = refl }

@@ -8,6 +8,3 @@ use Rattle.storing.proofs.next_packet.Given as goal
 
 abbrev pub invariant-loop-i : goal.invariant-loop-i
 invariant-loop-i l = (queue (drop l.i (packets_at l.m l.state)) l.class ≡ queue (drop l.from (packets_at l.m l.state)) l.class)
-
-abbrev pub decreases-loop-i : goal.decreases-loop-i
-decreases-loop-i l = l.m - l.i

@@ -7,12 +7,12 @@ use Rattle.storing.proofs.store_counts.Goals as goal
 pub returns : goal.returns
 unfolding counts_stored
 returns c = record {
-  state_after = λ live bytes held since parent_since.
+  state_after = λ live same.
       rw (
-        bytes,
-        held,
-        since,
-        parent_since,
+        same.bytes,
+        same.held,
+        same.since,
+        same.parent_since,
         c.store_longs-3.ensures.state_after,
         c.store_longs-2.ensures.state_after,
         c.store_words.ensures.state_after,

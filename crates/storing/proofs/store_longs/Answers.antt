@@ -1,22 +1,21 @@
--- `store_longs` meets its contract: a row more at each turn.
+-- `store_longs` meets its contract: the words before, the rows, and the words behind.
 -- Assumes nothing.
-use Prim.Native.Nat.{◌-◌}
-use mathlib.Core.Path.{◌≡◌, refl}
-use lib.ListN.{length-set}
-use Rattle.storing.proofs.Turns.{written_none, written_turn}
+use Prim.Native.Nat.{◌+◌, ◌-◌}
+use mathlib.Core.Path.{◌≡◌, sym}
 use native.Mathlib.Omega.{arith}
+use mathlib.Core.List.{append_assoc}
+use lib.ListN.{take, drop}
+use Rattle.std.proofs.lemmas.List.{drop-drop}
+use lib.Seq.{length-take-le}
+use Rattle.std.proofs.lemmas.List.Edits.{sets-eq}
+use Rattle.live_rules.specs.State.{rows_stored}
 use Rattle.storing.proofs.store_longs.Goals as goal
 
-pub loop-r-init : goal.loop-r-init
-loop-r-init c = (omega arith, written_none _ c.args.list.now c.args.at, refl)
-
-pub loop-r-preserved : goal.loop-r-preserved
-loop-r-preserved c =
-    let s = c.args in (
-      omega arith,
-      written_turn c.loop-r.state s.state.now s.list.now s.at c.loop-r.r _ (omega arith) refl c.loop-r.invariant.1,
-      simp length-set (omega arith),
-    )
-
-pub returns : goal.returns
-returns c = let end : c.loop-r.r ≡ c.args.n = omega arith in record { state_after = rw (← end) c.loop-r.invariant.1; state_unchanged = c.loop-r.invariant.2 }
+pub returns-clause-state_after : goal.returns-clause-state_after
+unfolding rows_stored
+returns-clause-state_after c =
+    let s = c.args in
+    let e : s.at + s.n - s.at ≡ s.n = omega arith in
+    let long = length-take-le s.n s.list.now (omega arith) in
+    rw (c.copy_from_slice.ensures.after, e, sets-eq (take s.n s.list.now) s.state.now s.at (omega arith), long, drop-drop s.n s.at s.state.now)
+    (sym (append_assoc (take s.at s.state.now) (take s.n s.list.now) (drop (s.at + s.n) s.state.now)))

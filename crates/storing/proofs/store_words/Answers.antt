@@ -8,15 +8,14 @@ use native.Mathlib.Omega.{arith}
 use Rattle.storing.proofs.store_words.Goals as goal
 
 pub loop-r-init : goal.loop-r-init
-loop-r-init c = (omega arith, written_none _ c.args.list.now c.args.at, refl)
+loop-r-init c = (written_none _ c.args.list.now c.args.at, refl)
 
 pub loop-r-preserved : goal.loop-r-preserved
 loop-r-preserved c =
     let s = c.args in (
-      omega arith,
-      written_turn c.loop-r.state s.state.now s.list.now s.at c.loop-r.r _ (omega arith) c.long.ensures.0 c.loop-r.invariant.1,
+      written_turn c.loop-r.state s.state.now s.list.now s.at c.loop-r.r _ (omega arith) c.long.ensures.0 c.loop-r.invariant.0,
       simp length-set (omega arith),
     )
 
 pub returns : goal.returns
-returns c = let end : c.loop-r.r ≡ c.args.n = omega arith in record { state_after = rw (← end) c.loop-r.invariant.1; state_unchanged = c.loop-r.invariant.2 }
+returns c = let end : c.loop-r.r ≡ c.args.n = omega arith in record { state_after = rw (← end) c.loop-r.invariant.0; state_unchanged = c.loop-r.invariant.1 }

@@ -7,7 +7,4 @@ use Rattle.live_rules.specs.State.{rows_stored}
 use Rattle.storing.proofs.store_words.Given as goal
 
 abbrev pub invariant-loop-r : goal.invariant-loop-r
-invariant-loop-r l = (l.r ≤ l.n) × (l.state ≡ rows_stored l.at l.r l.list l.initial.state) × (length l.state ≡ length l.initial.state)
-
-abbrev pub decreases-loop-r : goal.decreases-loop-r
-decreases-loop-r l = l.n - l.r
+invariant-loop-r l = (l.state ≡ rows_stored l.at l.r l.list l.initial.state) × (length l.state ≡ length l.initial.state)

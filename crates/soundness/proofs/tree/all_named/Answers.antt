@@ -18,32 +18,31 @@ use Rattle.soundness.proofs.tree.all_named.Goals as goal
 
 pub loop-r-init : goal.loop-r-init
 unfolding all
-loop-r-init c = (omega arith, refl, refl, λ x. met_start c.args.identifiers.now x)
+loop-r-init c = (refl, refl, λ x. met_start c.args.identifiers.now x)
 
 pub returns-then-not-is_new : goal.returns-then-not-is_new
 returns-then-not-is_new c tree e1 e2 =
     let ids = c.args.identifiers.now in
     let n = c.args.n in
     let r = c.loop-r.r in
-    let this = sym (newly_test ids c.loop-r.table r c.loop-r.invariant.3) ∙ sym c.is_new.ensures ∙ c.if-not-is_new.true in
+    let this = sym (newly_test ids c.loop-r.table r c.loop-r.invariant.2) ∙ sym c.is_new.ensures ∙ c.if-not-is_new.true in
     sym (all_same n (named tree) (newly ids) (λ q inside. named_newly tree ids n q e2 inside) ∙ all_fails n (newly ids) r (omega arith) this)
 
 pub meet-requires : goal.meet-requires
-meet-requires c = let x = get_or c.args.identifiers.now c.loop-r.r 0 in let new = sym c.is_new.ensures ∙ c.if-not-is_new.false in let later = both_right (ltb 0 x) (leb x most_identifier && not (met c.loop-r.table x)) new in record { identifier_small = leb-true x most_identifier (both_left (leb x most_identifier) (not (met c.loop-r.table x)) later); table_full = c.loop-r.invariant.1; not_met = not-true (met c.loop-r.table x) (both_right (leb x most_identifier) (not (met c.loop-r.table x)) later) }
+meet-requires c = let x = get_or c.args.identifiers.now c.loop-r.r 0 in let new = sym c.is_new.ensures ∙ c.if-not-is_new.false in let later = both_right (ltb 0 x) (leb x most_identifier && not (met c.loop-r.table x)) new in record { identifier_small = leb-true x most_identifier (both_left (leb x most_identifier) (not (met c.loop-r.table x)) later); table_full = c.loop-r.invariant.0; not_met = not-true (met c.loop-r.table x) (both_right (leb x most_identifier) (not (met c.loop-r.table x)) later) }
 
 pub loop-r-preserved : goal.loop-r-preserved
 loop-r-preserved c =
     let ids = c.args.identifiers.now in
     let r = c.loop-r.r in
     let new = c.is_new in
-    let this = sym (newly_test ids c.loop-r.table r c.loop-r.invariant.3) ∙ sym new.ensures ∙ c.if-not-is_new.false in (
-      omega arith,
+    let this = sym (newly_test ids c.loop-r.table r c.loop-r.invariant.2) ∙ sym new.ensures ∙ c.if-not-is_new.false in (
       c.meet.ensures.table_stays_full,
-      rw add-one (all_next r (newly ids) c.loop-r.invariant.2 this),
-      λ x. rw (add-one, c.meet.ensures.met_after x) (met_turn ids r x (met c.loop-r.table x) (c.loop-r.invariant.3 x)),
+      rw add-one (all_next r (newly ids) c.loop-r.invariant.1 this),
+      λ x. rw (add-one, c.meet.ensures.met_after x) (met_turn ids r x (met c.loop-r.table x) (c.loop-r.invariant.2 x)),
     )
 
 pub returns : goal.returns
 returns c tree e1 e2 =
     let end : c.loop-r.r ≡ c.args.n = omega arith in
-    sym (all_same c.args.n (named tree) (newly c.args.identifiers.now) (λ r inside. named_newly tree c.args.identifiers.now c.args.n r e2 inside) ∙ (rw end at c.loop-r.invariant.2))
+    sym (all_same c.args.n (named tree) (newly c.args.identifiers.now) (λ r inside. named_newly tree c.args.identifiers.now c.args.n r e2 inside) ∙ (rw end at c.loop-r.invariant.1))

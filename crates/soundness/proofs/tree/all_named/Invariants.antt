@@ -11,7 +11,4 @@ use Rattle.soundness.proofs.tree.all_named.Given as goal
 
 abbrev pub invariant-loop-r : goal.invariant-loop-r
 invariant-loop-r l =
-    (l.r ≤ l.n) × (length l.table ≡ table_words) × (all l.r (newly l.identifiers) ≡ true) × ((x : ℕ) → met l.table x ≡ earlier_has l.identifiers l.r x)
-
-abbrev pub decreases-loop-r : goal.decreases-loop-r
-decreases-loop-r l = l.n - l.r
+    (length l.table ≡ table_words) × (all l.r (newly l.identifiers) ≡ true) × ((x : ℕ) → met l.table x ≡ earlier_has l.identifiers l.r x)

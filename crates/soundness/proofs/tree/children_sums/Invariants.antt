@@ -12,6 +12,3 @@ abbrev pub invariant-loop-r : goal.invariant-loop-r
 invariant-loop-r l =
     (0 < l.r) × (l.r ≤ max 1 l.n) × (length l.sums ≡ most_rows) × ((p : ℕ) → get_or l.sums p 0 ≤ l.r * 2 ^ 32)
     × ((tree : Tree) → tree.parents ≡ l.parents → (p : ℕ) → p < most_rows → get_or l.sums p 0 ≡ children_sum tree l.list p l.r)
-
-abbrev pub decreases-loop-r : goal.decreases-loop-r
-decreases-loop-r l = l.n - l.r

@@ -11,8 +11,5 @@ use Rattle.soundness.proofs.tree.senders_of.Given as goal
 
 abbrev pub invariant-loop-r : goal.invariant-loop-r
 invariant-loop-r l =
-    (0 < l.r) × (l.r ≤ max 1 l.n) × (length l.marks ≡ most_rows)
+    (0 < l.r) × (length l.marks ≡ most_rows)
     × ((tree : Tree) → tree.parents ≡ l.parents → (p : ℕ) → p < most_rows → childless tree l.r p ≡ get_or l.marks p false)
-
-abbrev pub decreases-loop-r : goal.decreases-loop-r
-decreases-loop-r l = l.n - l.r
