@@ -82,6 +82,6 @@ module _ (identifiers : List ℕ) where
       row_there inside named =
           sym (found_at class identifiers row inside named (λ r before same. let e = filed_row r (omega arith) same in omega arith))
 
-      pub row_nowhere : get_or identifiers row 0 ≢ class → length identifiers ≡ place_of class identifiers
+      pub row_nowhere : get_or identifiers row 0 ≢ class → place_of class identifiers ≡ length identifiers
       row_nowhere other =
-          sym (found_none class identifiers (λ r inside same. other (ap (λ (k : ℕ). get_or identifiers k 0) (filed_row r inside same) ∙ same)))
+          found_none class identifiers (λ r inside same. other (ap (λ (k : ℕ). get_or identifiers k 0) (filed_row r inside same) ∙ same))

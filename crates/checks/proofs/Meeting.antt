@@ -3,12 +3,12 @@
 use Prim.Native.Nat.{ℕ, suc, ◌+◌, ◌≤◌, ◌<◌}
 use mathlib.Core.Path.{◌≡◌, refl, sym, ◌∙◌, ap, ap₂}
 use mathlib.Core.Bool.{Bool, true, false, cond}
-use mathlib.Core.Logic.{◌≢◌}
 use mathlib.Core.List.{List}
 use native.Mathlib.Omega.{arith}
 use lib.Dec.{eqb, leb}
 use lib.ListN.{length, get_or, set}
 use borrow.Author.Tests.{eq-eqb, ne_eqb, eqb-false}
+use Rattle.std.specs.Prelude.{Option, Some, None, Result, Ok}
 use Rattle.input.specs.declared.Event.{Event}
 use Rattle.input.specs.declared.Event.TheVariants.{Arrival, Finish}
 use Rattle.input.specs.declared.Refusal.{Refusal}
@@ -18,37 +18,30 @@ use Rattle.input.specs.EventRows.{row_for, no_rows, rows_for}
 use Rattle.input.specs.Refusals.{nothing, given, or_else, first, first_below, packet_refused, meeting_refused}
 use Rattle.rules.specs.Promise.{within, for_part, one_arrival, one_finish, arrived, finish_count}
 use Rattle.laws.proofs.Tree.Trees.{or_none, given_none, place_most}
+use Rattle.tables.specs.Judged.{Refuses, Judged}
+use Rattle.tables.specs.Stated.{Finds}
 use Rattle.tables.specs.Answers.{refusal_of}
-use Rattle.checks.specs.declared.EventCheck.{EventCheck}
-use Rattle.checks.specs.Counted.{counted_refused, Known, Found, Meets}
-use Rattle.tables.proofs.Firsts.{Plain, or_else_second, given_plain, or_else_plain, last_plain, below_plain, stopped}
+use Rattle.checks.specs.Counted.{counted_refused, Known, Places, Found}
+use Rattle.tables.proofs.Firsts.{Plain, or_else_second, given_plain, or_else_plain, last_plain, below_plain}
+use Rattle.tables.proofs.Judging.{refuses, judged_as, at_place}
 
 -- ── an arrival ──
 
-module _
-    (tree : Tree) (rows : ℕ) (senders : List Bool) (class row : ℕ) (found : Found tree rows senders class row) (i word : ℕ) (idle : Bool) (bytes : ℕ) where
-  unknown_class : row ≡ rows → refusal_of 11 i 0 ≡ meeting_refused tree i word (Arrival class bytes) idle
+module _ (tree : Tree) (class i word : ℕ) (idle : Bool) (bytes : ℕ) where
+  pub met_unknown : (r : Refusal) → row_of tree class ≡ tree.rows → r ≡ refusal_of 11 i 0 → Refuses (meeting_refused tree i word (Arrival class bytes) idle) r
   unfolding meeting_refused or_else given nothing
-  unknown_class end =
-      rw (eq-eqb (row_of tree class) tree.rows (sym found.row_is ∙ end ∙ sym found.rows_are)) refl
+  met_unknown r none eleven = refuses eleven (omega arith) (rw (eq-eqb (row_of tree class) tree.rows none) refl)
 
-  pub met_unknown : (refusal : Refusal) → refusal ≡ refusal_of 11 i 0 → row ≡ rows
-      → Meets tree i word (Arrival class bytes) idle (record { refusal = refusal; row = 0 })
-  met_unknown refusal eleven end =
-      let number = ap (λ (r : Refusal). r.number) eleven in
-      record { refusal = eleven ∙ unknown_class end; row = λ none. absurd (omega arith) }
+  module _ (senders : List Bool) (row : ℕ) (found : Found tree senders class (Some row)) where
+    known_class : packet_refused i (get_or senders row false) bytes ≡ meeting_refused tree i word (Arrival class bytes) idle
+    unfolding meeting_refused or_else given nothing
+    known_class =
+        let at = found.row_is in
+        rw (ne_eqb (row_of tree class) tree.rows (λ e. omega arith), ← at.0, found.sending row at.1) refl
 
-  known_class : row < rows → packet_refused i (get_or senders row false) bytes ≡ meeting_refused tree i word (Arrival class bytes) idle
-  unfolding meeting_refused or_else given nothing
-  known_class inside =
-      let rows_are = found.rows_are in
-      let row_is = found.row_is in
-      rw (ne_eqb (row_of tree class) tree.rows (λ e. omega arith), ← row_is, found.sending row inside) refl
-
-  pub met_known : (refusal : Refusal) → refusal ≡ packet_refused i (get_or senders row false) bytes → row < rows
-      → Meets tree i word (Arrival class bytes) idle (record { refusal = refusal; row = row })
-  unfolding row_for
-  met_known refusal packet inside = record { refusal = packet ∙ known_class inside; row = λ none. found.row_is }
+    pub met_known : {A : Type 0} (a : A) (r : Result A Refusal) → Judged (packet_refused i (get_or senders row false) bytes) a r
+        → Judged (meeting_refused tree i word (Arrival class bytes) idle) a r
+    met_known a r packet = judged_as _ _ a r known_class packet
 
 -- ── rows ──
 
@@ -61,9 +54,13 @@ module _ (tree : Tree) (identifiers : List ℕ) (senders : List Bool) (known : K
   unfolding row_of
   row_within class = rw known.names (place_most class identifiers)
 
-  pub class_found : (class row : ℕ) → row ≡ place_of class identifiers → Found tree (length identifiers) senders class row
-  class_found class row found =
-      record { rows_are = known.rows; row_is = found ∙ sym (row_found class); sending = known.sending }
+  pub class_found : (class : ℕ) (row : Option ℕ) → Finds identifiers class row → Found tree senders class row
+  class_found class row finds =
+      record { row_is = place row finds; sending = λ r inside. known.sending r (let h = rw known.rows at inside in h) }
+    where
+      place : (row : Option ℕ) → Finds identifiers class row → Places tree class row
+      place (Some r) finds = (finds.0 ∙ sym (row_found class), rw known.rows finds.1)
+      place None finds = row_found class ∙ finds ∙ sym known.rows
 
   -- ── counts ──
 
@@ -128,27 +125,28 @@ counted_plain tree events =
     below_plain (counted_refused tree events)
     (λ i. meeting_plain tree i (length_word events i) (event events i) (leb (arrived tree events 0 i) (finish_count events i)))
 
-module _ (tree : Tree) (identifiers : List ℕ) (senders : List Bool) (known : Known tree identifiers senders) (events : Events)
-    (i : ℕ) (rows : List ℕ) (arrivals finishes : ℕ) (passed : Passed tree events i rows arrivals finishes) (check : EventCheck)
-    (met : Meets tree i (length_word events i) (event events i) (leb arrivals finishes) check) where
-  counted : check.refusal ≡ counted_refused tree events i
-  unfolding counted_refused
-  counted = rw (← passed.came, ← passed.went) met.refusal
+module _ (tree : Tree) (events : Events) (i : ℕ) (rows : List ℕ) (arrivals finishes : ℕ) (passed : Passed tree events i rows arrivals finishes) where
+  abbrev met : Refusal
+  met = meeting_refused tree i (length_word events i) (event events i) (leb arrivals finishes)
 
-  pub passed_stop : (n : ℕ) → i < n → check.refusal.number ≢ 0 → check.refusal ≡ first_below (counted_refused tree events) n
-  passed_stop n below some = counted ∙ sym (stopped (counted_refused tree events) i n below passed.none (rw (← counted) some))
+  counted : met ≡ counted_refused tree events i
+  unfolding counted_refused
+  counted = rw (passed.came, passed.went) refl
+
+  pub passed_stop : (n : ℕ) → i < n → (r : Refusal) → Refuses met r → Refuses (first_below (counted_refused tree events) n) r
+  passed_stop n below r refused =
+      at_place (counted_refused tree events) i n r below passed.none (rw (← counted) refused)
 
   passed_by : or_else (first_below (counted_refused tree events) i) (counted_refused tree events i) ≡ counted_refused tree events i
   passed_by = or_else_second (first_below (counted_refused tree events) i) (counted_refused tree events i) passed.none
 
-  pub passed_more : check.refusal.number ≡ 0
-      → Passed tree events (suc i) (set rows i check.row) (arrivals + one_arrival (event events i)) (finishes + one_finish (event events i))
+  pub passed_more : (identifiers : List ℕ) (senders : List Bool) → Known tree identifiers senders → (row : ℕ) → Judged met (row_for tree (event events i)) (Ok row)
+      → Passed tree events (suc i) (set rows i row) (arrivals + one_arrival (event events i)) (finishes + one_finish (event events i))
   unfolding rows_for arrived finish_count first_below or_else
-  passed_more none =
-      let fine : (meeting_refused tree i (length_word events i) (event events i) (leb arrivals finishes)).number ≡ 0 = rw met.refusal at none in
+  passed_more identifiers senders known row fine =
       record {
-        placed = rw (passed.placed, met.row none) refl;
-        came = ap₂ ◌+◌ passed.came (sym (event_counts tree identifiers senders known events i (leb arrivals finishes) fine));
+        placed = rw (passed.placed, fine.1) refl;
+        came = ap₂ ◌+◌ passed.came (sym (event_counts tree identifiers senders known events i (leb arrivals finishes) fine.0));
         went = rw passed.went refl;
-        none = rw (passed_by, ← counted) none;
+        none = rw (passed_by, ← counted) fine.0;
       }

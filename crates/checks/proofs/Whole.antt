@@ -1,44 +1,28 @@
 -- A whole input: the refusal by the parts that were looked at, and what is known where a part does not refuse.
 -- Assumes nothing.
-use Prim.Native.Nat.{ℕ, ◌≤◌}
-use mathlib.Core.Path.{◌≡◌, refl, sym, ◌∙◌}
-use mathlib.Core.Bool.{Bool, true, false, cond, not}
+use Prim.Native.Nat.{◌≤◌}
+use mathlib.Core.Path.{◌≡◌, sym, ◌∙◌}
+use mathlib.Core.Bool.{not}
 use mathlib.Core.Logic.{◌≢◌}
-use mathlib.Core.List.{List}
 use mathlib.Mathlib.Data.Bool.Basic.{or-eq-false-eq-eq-false-and-eq-false as or-is-false}
 use lib.Dec.{eqb, ltb}
 use lib.ListN.{length}
-use borrow.Author.Tests.{eq-eqb, ne_eqb, eqb-true, ltb-false, not-false}
+use borrow.Author.Tests.{eqb-true, ltb-false, not-false}
+use Rattle.std.specs.Prelude.{Result, Err}
 use Rattle.input.specs.declared.Refusal.{Refusal}
 use Rattle.input.specs.Limits.{most_events}
-use Rattle.input.specs.Classes.{Table, Tree, tree_of}
+use Rattle.input.specs.Classes.{Table, tree_of}
 use Rattle.input.specs.Events.{Events, count}
-use Rattle.input.specs.EventRows.{rows_for}
 use Rattle.input.specs.Refusals.{Room, nothing, or_else, first_below, rows_refused, events_refused, table_refused}
 use Rattle.rules.specs.Refused.{refused}
 use Rattle.laws.proofs.Tree.Trees.{first_none, given_none}
-use Rattle.tables.specs.declared.Reading.{Reading}
 use Rattle.tables.specs.Sized.{Sized}
-use Rattle.tables.specs.Answers.{senders_below, accepting, refusing, answer}
-use Rattle.checks.specs.declared.Checked.{Checked}
-use Rattle.checks.specs.Counted.{counted_refused, lengths_refused, stopping, checked}
-use Rattle.tables.proofs.Firsts.{or_else_first, or_else_second, table_plain}
+use Rattle.tables.specs.Judged.{Refuses, Judged}
+use Rattle.tables.proofs.Firsts.{or_else_first, or_else_second}
+use Rattle.tables.proofs.Judging.{judged_as, at_first, at_second, at_last}
+use Rattle.tables.proofs.Answering.{sized}
+use Rattle.checks.specs.Counted.{counted_refused, lengths_refused}
 use Rattle.checks.proofs.Counting.{rules_split}
-use Rattle.tables.proofs.Answering.{sized, answer_accepts, answer_refuses}
-
--- an answer has the refusal that it is made of
-pub answer_refusal : (refusal : Refusal) (tree : Tree) → (answer refusal tree).refusal ≡ refusal
-unfolding answer accepting refusing
-answer_refusal refusal tree = go (eqb refusal.number 0)
-  where
-    go : (b : Bool) → (cond b (accepting refusal tree) (refusing refusal)).refusal ≡ refusal
-    go true = refl
-    go false = refl
-
-pub answer_senders : (refusal : Refusal) (tree : Tree) → refusal.number ≡ 0 → (answer refusal tree).senders ≡ senders_below tree
-    tree.rows
-unfolding accepting
-answer_senders refusal tree none = rw (answer_accepts refusal tree none) refl
 
 pub record Listed (events : Events) : Type 0 where
   pub even : length events.lengths ≡ count events
@@ -57,33 +41,25 @@ module _ (table : Table) (events : Events) (room : Room) where
   pub by_lengths : lengths.number ≢ 0 → refused table events room ≡ lengths
   by_lengths some = split ∙ or_else_first lengths _ some
 
-  past_lengths : lengths.number ≡ 0 → refused table events room ≡ or_else (table_refused table) (or_else listed nothing)
-  past_lengths none = split ∙ or_else_second lengths _ none
-
   pub by_table : lengths.number ≡ 0 → (table_refused table).number ≢ 0 → refused table events room ≡ table_refused table
-  by_table none some = past_lengths none ∙ or_else_first (table_refused table) _ some
+  by_table none some = split ∙ or_else_second lengths _ none ∙ or_else_first (table_refused table) _ some
 
-  past_table : lengths.number ≡ 0 → (table_refused table).number ≡ 0 → refused table events room ≡ or_else listed nothing
-  past_table none fine = past_lengths none ∙ or_else_second (table_refused table) _ fine
+  -- ── what a check answers that stops at a part, or at none ──
 
-  pub by_list : lengths.number ≡ 0 → (table_refused table).number ≡ 0 → listed.number ≢ 0 → refused table events room ≡ listed
-  by_list none fine some = past_table none fine ∙ or_else_first listed nothing some
+  pub stops_lengths : (r : Refusal) → Refuses lengths r → Refuses (refused table events room) r
+  stops_lengths r refuses = rw split (at_first lengths _ r refuses)
 
-  pub by_none : lengths.number ≡ 0 → (table_refused table).number ≡ 0 → listed.number ≡ 0 → refused table events room ≡ table_refused table
-  by_none none fine passed = past_table none fine ∙ or_else_second listed nothing passed ∙ sym (table_plain table fine)
+  pub past_lengths : {A : Type 0} (found : A) (r : Result A Refusal) → lengths.number ≡ 0 → Judged (or_else (table_refused table) (or_else listed nothing)) found r
+      → Judged (refused table events room) found r
+  past_lengths found r none judged = judged_as _ _ found r (sym split) (at_second lengths _ found r none judged)
 
-  -- ── the answer ──
+  pub stops_table : (r : Refusal) → lengths.number ≡ 0 → Refuses (table_refused table) r → Refuses (refused table events room) r
+  stops_table r none refuses = past_lengths r (Err r) none (at_first (table_refused table) _ r refuses)
 
-  module _ (refusal : Refusal) (found : refused table events room ≡ refusal) where
-    pub checked_stops : refusal.number ≢ 0 → stopping refusal ≡ checked table events room
-    unfolding checked stopping
-    checked_stops some = rw (found, answer_refuses refusal (tree_of table) some, ne_eqb refusal.number 0 some) refl
-
-    pub checked_whole : refusal.number ≡ 0 → (reading : Reading) (rows : List ℕ) → reading ≡ answer refusal (tree_of table)
-        → rows ≡ rows_for (tree_of table) events (count events)
-        → ◌≡◌ {A = Checked} (record { reading = reading; event_rows = rows }) (checked table events room)
-    unfolding checked
-    checked_whole none reading rows read placed = rw (found, eq-eqb refusal.number 0 none, read, placed) refl
+  pub past_table : {A : Type 0} (found : A) (r : Result A Refusal) → lengths.number ≡ 0 → (table_refused table).number ≡ 0 → Judged listed found r
+      → Judged (refused table events room) found r
+  past_table found r none fine judged =
+      past_lengths found r none (at_second (table_refused table) (or_else listed nothing) found r fine (at_last listed found r judged))
 
   -- ── what is known where the lengths are accepted ──
 

@@ -4,39 +4,34 @@
 
 mod rows;
 
-ghost use Rattle.std.specs.Prelude.{◌≡◌, Bool, ℕ, ◌≤◌, ◌<◌, ◌^◌};
+ghost use Rattle.std.specs.Prelude.{◌≡◌, Bool, ℕ, Option, ◌<◌, ◌≤◌, ◌^◌, IfSome};
 ghost use Rattle.std.proofs.Math.ListN as lists;
 ghost use Rattle.input.specs.declared.Event.TheVariants.{Arrival, Finish};
 ghost use Rattle.input.specs.Limits.{most_rows, most_events};
 ghost use Rattle.input.specs.Classes.{Table, Tree};
 ghost use Rattle.input.specs.Events.{Events, count};
 ghost use Rattle.input.specs.Refusals.{events_refused, room_refused, packet_refused};
-ghost use Rattle.input.specs.Lent.{table_of, events_of, room_with};
+ghost use Rattle.input.specs.Lent.{table_of, events_of};
 ghost use Rattle.rules.specs.Promise.{one_arrival, one_finish};
+ghost use Rattle.tables.specs.Judged.{Judged};
 ghost use Rattle.checks.specs.Filed.{AllFiled};
-ghost use Rattle.checks.specs.Counted.{SlicesOf, ChecksLengths, Known, Found, Meets, MeetsAll, stopping, Checks};
+ghost use Rattle.checks.specs.Counted.{room_in, SlicesOf, ChecksLengths, Known, Found, Meets, MeetsAll, Checks};
 
 use input::{Event, EventRows, OnAirRows, Refusal, RowMarks};
 pub use rows::filed;
 use rows::row_of;
 use tables::Reading;
 
-// An event as it is checked: what refuses it, and where nothing does the row that it is for.
+// How many words each lent result slice has.
 #[derive(Clone, Copy)]
-pub struct EventCheck {
-    pub refusal: Refusal,
-    pub row: u8,
+pub struct ResultRoom {
+    pub order: usize,
+    pub report: usize,
+    pub lags: usize,
+    pub working: usize,
 }
 
-// The list of events as it is checked: the first refusal, and where there is none the row that each event is for.
-#[derive(Clone, Copy)]
-struct ListCheck {
-    refusal: Refusal,
-    rows: EventRows,
-}
-
-// What the check of a whole input answers: the first refusal, and where there is none the table as it was read, and for each event
-// the row of its class, 0 for a finish; all zero where something is refused.
+// A whole input that nothing refuses: the table as it was read, and for each event the row of its class, 0 for a finish.
 #[derive(Clone, Copy)]
 pub struct Checked {
     pub reading: Reading,
@@ -44,43 +39,36 @@ pub struct Checked {
 }
 
 // 2: the event slices, of so many words, are unequal, or there are too many events.
-fn events_refused(events: usize, lengths: usize) -> Refusal
-    ensures { (list : Events) → count list ≡ events → lists.length list.lengths ≡ lengths → result ≡ events_refused list }
+fn events_refused(events: usize, lengths: usize) -> Result<(), Refusal>
+    ensures { (list : Events) → count list ≡ events → lists.length list.lengths ≡ lengths → Judged (events_refused list) tt result }
 {
     if lengths != events {
-        return tables::refusal(2, 0, 0);
+        return Err(tables::refusal(2, 0, 0));
     }
     if input::MOST_EVENTS < events {
-        return tables::refusal(2, 0, 0);
+        return Err(tables::refusal(2, 0, 0));
     }
-    tables::none()
+    Ok(())
 }
 
 // 3: a result slice is too short for so many rows and events.
-fn room_refused(
-    rows: usize,
-    events: usize,
-    order: usize,
-    report: usize,
-    lags: usize,
-    working: usize,
-) -> Refusal
+fn room_refused(rows: usize, events: usize, room: ResultRoom) -> Result<(), Refusal>
     requires { rows < 2 ^ 61 }
-    ensures { result ≡ room_refused rows events (room_with order report lags working) }
+    ensures { Judged (room_refused rows events (room_in room)) tt result }
 {
-    if order < events {
-        return tables::refusal(3, 0, 0);
+    if room.order < events {
+        return Err(tables::refusal(3, 0, 0));
     }
-    if working < events {
-        return tables::refusal(3, 0, 0);
+    if room.working < events {
+        return Err(tables::refusal(3, 0, 0));
     }
-    if report < input::REPORT_WORDS * rows {
-        return tables::refusal(3, 0, 0);
+    if room.report < input::REPORT_WORDS * rows {
+        return Err(tables::refusal(3, 0, 0));
     }
-    if lags < rows {
-        return tables::refusal(3, 0, 0);
+    if room.lags < rows {
+        return Err(tables::refusal(3, 0, 0));
     }
-    tables::none()
+    Ok(())
 }
 
 // The check of the lengths, where the slices have so many words.
@@ -90,19 +78,15 @@ pub fn check_counts(
     shares: usize,
     events: usize,
     lengths: usize,
-    order: usize,
-    report: usize,
-    lags: usize,
-    working: usize,
-) -> Refusal
+    room: ResultRoom,
+) -> Result<(), Refusal>
     requires { rows < 2 ^ 61 }
     ensures { (table : Table) (list : Events) → SlicesOf table list rows parents shares events lengths →
-        ChecksLengths table list (room_with order report lags working) result }
+        ChecksLengths table list (room_in room) result }
 {
-    let unequal = tables::rows_refused(rows, parents, shares);
-    let many = events_refused(events, lengths);
-    let room = room_refused(rows, events, order, report, lags, working);
-    tables::or_else(unequal, tables::or_else(many, room))
+    tables::rows_refused(rows, parents, shares)?;
+    events_refused(events, lengths)?;
+    room_refused(rows, events, room)
 }
 
 // The check of the lengths: those of the lent slices of a table and of an event list, and those of the result slices.
@@ -112,13 +96,10 @@ pub fn check_lengths(
     shares: &[u32],
     classes: &[u32],
     lengths: &[u32],
-    order: usize,
-    report: usize,
-    lags: usize,
-    working: usize,
-) -> Refusal
+    room: ResultRoom,
+) -> Result<(), Refusal>
     ensures { ChecksLengths (table_of identifiers.now parent_identifiers.now shares.now)
-        (events_of classes.now lengths.now) (room_with order report lags working) result }
+        (events_of classes.now lengths.now) (room_in room) result }
 {
     check_counts(
         identifiers.len(),
@@ -126,10 +107,7 @@ pub fn check_lengths(
         shares.len(),
         classes.len(),
         lengths.len(),
-        order,
-        report,
-        lags,
-        working,
+        room,
     )
 }
 
@@ -160,44 +138,38 @@ fn one_finish(event: Event) -> usize
 }
 
 // A packet for a class that is there: 12, 13.
-fn packet_refused(i: usize, sending: bool, length: u32) -> Refusal
+fn packet_refused(i: usize, sending: bool, length: u32) -> Result<(), Refusal>
     requires { i < most_events }
-    ensures { result ≡ packet_refused i sending length }
+    ensures { Judged (packet_refused i sending length) tt result }
 {
     if !sending {
-        return tables::refusal(12, i, 0);
+        return Err(tables::refusal(12, i, 0));
     }
     if length < input::LEAST_BYTES {
-        return tables::refusal(13, i, 0);
+        return Err(tables::refusal(13, i, 0));
     }
     if input::MOST_BYTES < length {
-        return tables::refusal(13, i, 0);
+        return Err(tables::refusal(13, i, 0));
     }
-    tables::none()
+    Ok(())
 }
 
-// A packet for the class in this row, or for no class where that is how many rows there are: 11, 12, 13.
+// A packet for the class in this row, or for no class: 11, 12, 13; otherwise the row.
 pub fn check_packet(
-    rows: usize,
     senders: &RowMarks,
     i: usize,
-    row: usize,
+    row: Option<usize>,
     length: u32,
-) -> EventCheck
-    requires { (row ≤ rows) × (rows ≤ most_rows) × (i < most_events) }
-    ensures { (tree : Tree) (word class : ℕ) (idle : Bool) → Found tree rows senders.now class row
+) -> Result<u8, Refusal>
+    requires { IfSome row (λ r. r < most_rows) × (i < most_events) }
+    ensures { (tree : Tree) (word class : ℕ) (idle : Bool) → Found tree senders.now class row
         → Meets tree i word (Arrival class length) idle result }
 {
-    if row == rows {
-        return EventCheck {
-            refusal: tables::refusal(11, i, 0),
-            row: 0,
-        };
-    }
-    EventCheck {
-        refusal: packet_refused(i, senders[row], length),
-        row: row as u8,
-    }
+    let Some(row) = row else {
+        return Err(tables::refusal(11, i, 0));
+    };
+    packet_refused(i, senders[row], length)?;
+    Ok(row as u8)
 }
 
 // An arrival.
@@ -208,29 +180,29 @@ fn check_arrival(
     i: usize,
     class: u32,
     length: u32,
-) -> EventCheck
+) -> Result<u8, Refusal>
     requires { AllFiled identifiers.now rows.now × (i < most_events) }
     ensures { (tree : Tree) (word : ℕ) (idle : Bool) → Known tree identifiers.now senders.now
         → Meets tree i word (Arrival class length) idle result }
 {
-    let row = row_of(identifiers, rows, class);
-    check_packet(identifiers.len(), senders, i, row, length)
+    check_packet(senders, i, row_of(identifiers, rows, class), length)
 }
 
-// A finish: 13, 14.
-pub fn check_finish(i: usize, word: u32, idle: bool) -> EventCheck
+// A finish: 13, 14; it is for no row.
+pub fn check_finish(i: usize, word: u32, idle: bool) -> Result<u8, Refusal>
     requires { i < most_events }
     ensures { (tree : Tree) → Meets tree i word Finish idle result }
 {
-    let wrong = tables::given(word != 0, 13, i);
-    let early = tables::given(idle, 14, i);
-    EventCheck {
-        refusal: tables::or_else(wrong, early),
-        row: 0,
+    if word != 0 {
+        return Err(tables::refusal(13, i, 0));
     }
+    if idle {
+        return Err(tables::refusal(14, i, 0));
+    }
+    Ok(0)
 }
 
-// An event at place i, with its length word, where the line is idle or not.
+// An event at place i, with its length word, where the line is idle or not: what refuses it, or the row that it is for.
 pub fn check_event(
     identifiers: &[u32],
     rows: &OnAirRows,
@@ -239,30 +211,25 @@ pub fn check_event(
     word: u32,
     event: Event,
     idle: bool,
-) -> EventCheck
+) -> Result<u8, Refusal>
     requires { AllFiled identifiers.now rows.now × (i < most_events) }
     ensures { (tree : Tree) → Known tree identifiers.now senders.now → Meets tree i word event idle result }
 {
     match event {
-        Event::Arrival { class, length } => check_arrival(
-            identifiers,
-            rows,
-            senders,
-            i,
-            class,
-            length,
-        ),
+        Event::Arrival { class, length } => {
+            check_arrival(identifiers, rows, senders, i, class, length)
+        }
         Event::Finish => check_finish(i, word, idle),
     }
 }
 
-// Event by event, 11 to 14. The line is idle where as many finishes as arrivals came before.
+// Event by event, 11 to 14; otherwise the row that each is for. The line is idle where as many finishes as arrivals came before.
 fn check_list(
     identifiers: &[u32],
     senders: &RowMarks,
     classes: &[u32],
     lengths: &[u32],
-) -> ListCheck
+) -> Result<EventRows, Refusal>
     requires { (0 < lists.length identifiers.now) × (lists.length identifiers.now ≤ most_rows) × (lists.length classes.now ≤ most_events)
         × (lists.length lengths.now ≡ lists.length classes.now) }
     ensures { (tree : Tree) → Known tree identifiers.now senders.now
@@ -272,11 +239,10 @@ fn check_list(
     let mut rows = [0u8; input::MOST_EVENTS];
     let mut arrivals = 0;
     let mut finishes = 0;
-    let mut i = 0;
-    while i < classes.len() {
+    for i in 0..classes.len() {
         let word = lengths[i];
         let event = input::decode(classes[i], word);
-        let check = check_event(
+        let row = check_event(
             identifiers,
             &on_air_rows,
             senders,
@@ -284,30 +250,12 @@ fn check_list(
             word,
             event,
             arrivals <= finishes,
-        );
-        let refusal = check.refusal;
-        if refusal.number != 0 {
-            return ListCheck { refusal, rows };
-        }
-        rows[i] = check.row;
+        )?;
+        rows[i] = row;
         arrivals += one_arrival(event);
         finishes += one_finish(event);
-        i += 1;
     }
-    ListCheck {
-        refusal: tables::none(),
-        rows,
-    }
-}
-
-// A refusal, and nothing else.
-fn stopping(refusal: Refusal) -> Checked
-    ensures { result ≡ stopping refusal }
-{
-    Checked {
-        reading: tables::refusing(refusal),
-        event_rows: [0u8; input::MOST_EVENTS],
-    }
+    Ok(rows)
 }
 
 // The check of a whole input.
@@ -317,42 +265,23 @@ pub fn check(
     shares: &[u32],
     classes: &[u32],
     lengths: &[u32],
-    order: usize,
-    report: usize,
-    lags: usize,
-    working: usize,
-) -> Checked
+    room: ResultRoom,
+) -> Result<Checked, Refusal>
     ensures { Checks (table_of identifiers.now parent_identifiers.now shares.now)
-        (events_of classes.now lengths.now) (room_with order report lags working) result }
+        (events_of classes.now lengths.now) (room_in room) result }
 {
-    let unfit = check_lengths(
+    check_lengths(
         identifiers,
         parent_identifiers,
         shares,
         classes,
         lengths,
-        order,
-        report,
-        lags,
-        working,
-    );
-    if unfit.number != 0 {
-        return stopping(unfit);
-    }
-    let reading = tables::read_sized(identifiers, parent_identifiers, shares);
-    let bad = reading.refusal;
-    if bad.number != 0 {
-        return stopping(bad);
-    }
-    let senders = reading.senders;
-    let list = check_list(identifiers, &senders, classes, lengths);
-    let refusal = list.refusal;
-    if refusal.number != 0 {
-        return stopping(refusal);
-    }
-    let event_rows = list.rows;
-    Checked {
+        room,
+    )?;
+    let reading = tables::read_sized(identifiers, parent_identifiers, shares)?;
+    let event_rows = check_list(identifiers, &reading.senders, classes, lengths)?;
+    Ok(Checked {
         reading,
         event_rows,
-    }
+    })
 }

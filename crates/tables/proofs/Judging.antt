@@ -11,7 +11,7 @@ use Rattle.std.proofs.lemmas.Option.{none-some, same_Some}
 use Rattle.std.specs.Prelude.{Result, Ok, Err, None, Some}
 use Rattle.std.specs.Result.{result_err, IsErrAnd}
 use Rattle.input.specs.declared.Refusal.{Refusal}
-use Rattle.input.specs.Refusals.{or_else, first_below}
+use Rattle.input.specs.Refusals.{nothing, or_else, first_below}
 use Rattle.tables.specs.Answers.{refusal_of}
 use Rattle.tables.specs.Judged.{Refuses, Judged, verdict}
 use Rattle.tables.proofs.Firsts.{or_else_first, or_else_second, stopped}
@@ -49,6 +49,12 @@ module _ (a b : Refusal) where
   -- the first does not
   pub at_second : {A : Type 0} (found : A) (r : Result A Refusal) → a.number ≡ 0 → Judged b found r → Judged (or_else a b) found r
   at_second found r none judged = judged_as b (or_else a b) found r (sym (or_else_second a b none)) judged
+
+-- nothing comes after it
+pub at_last : {A : Type 0} (a : Refusal) (found : A) (r : Result A Refusal) → Judged a found r → Judged (or_else a nothing) found r
+unfolding nothing
+at_last a found (Ok x) judged = (rw (or_else_second a nothing judged.0) refl, judged.1)
+at_last a found (Err r) judged = at_first a nothing r judged
 
 -- ── many ──
 

@@ -1,104 +1,91 @@
 -- `checks::check` meets its contract: lengths, then the table, then the events.
 -- Assumes nothing.
-use mathlib.Core.Path.{◌≡◌, sym, ◌∙◌, ap, subst}
+use Prim.Native.Nat.{ℕ}
+use mathlib.Core.Path.{◌≡◌, refl, sym, ap, subst}
 use mathlib.Core.Bool.{Bool}
 use mathlib.Core.List.{List}
+use Rattle.std.specs.Prelude.{Ok, Err}
 use Rattle.input.specs.Classes.{Table, tree_of}
 use Rattle.input.specs.Events.{Events}
-use Rattle.input.specs.Refusals.{Room, table_refused}
+use Rattle.input.specs.Refusals.{Room}
+use Rattle.input.specs.Lent.{table_of, events_of}
 use Rattle.tables.specs.declared.Reading.{Reading}
-use Rattle.input.specs.Lent.{table_of, events_of, room_with}
-use Rattle.checks.specs.Counted.{lengths_refused, Known, MeetsAll}
+use Rattle.tables.specs.Answers.{accepting}
+use Rattle.tables.proofs.Judging.{handed}
+use Rattle.checks.specs.declared.Checked.{Checked}
+use Rattle.checks.specs.Counted.{room_in, checked, Known}
 use Rattle.checks.proofs.Rooted.{known}
-use Rattle.checks.proofs.Whole.{answer_refusal, answer_senders, by_lengths, by_table, by_list, by_none}
-use Rattle.checks.proofs.Whole.{checked_stops, checked_whole, whole_rows, whole_sized, whole_listed}
+use Rattle.checks.proofs.Whole.{stops_lengths, stops_table, past_table, whole_rows, whole_sized, whole_listed}
 use Rattle.checks.proofs.check.Goals as goal
+use Rattle.checks.proofs.check.Goals.{In_ok-reading}
 
--- ── what is known after each part ──
+abbrev checked_of : Reading → List ℕ → Checked
+checked_of reading rows = record { reading = reading; event_rows = rows }
 
-pub returns-then-unfit-ne0 : goal.returns-then-unfit-ne0
-returns-then-unfit-ne0 c =
+-- which rows send, as they were read
+sending : (c : In_ok-reading) →
+    let table : Table = table_of c.args.identifiers.now c.args.parent_identifiers.now c.args.shares.now in
+    Known (tree_of table) table.identifiers c.in_ok-reading.reading.senders
+unfolding accepting
+sending c =
     let table : Table = table_of c.args.identifiers.now c.args.parent_identifiers.now c.args.shares.now in
     let events : Events = events_of c.args.classes.now c.args.lengths.now in
-    let room : Room = room_with c.args.order c.args.report c.args.lags c.args.working in
-    let some = c.if-unfit-ne0.true in
-    c.stopping.ensures
-    ∙ checked_stops table events room c.check_lengths-unfit.result
-    (by_lengths table events room (rw (← c.check_lengths-unfit.ensures) some) ∙ sym c.check_lengths-unfit.ensures) some
+    let room : Room = room_in c.args.room in
+    let found = ap (λ (reading : Reading). reading.senders) c.in_ok-reading.ensures.1 in
+    subst (λ (senders : List Bool). Known (tree_of table) table.identifiers senders) (sym found)
+    (known table (whole_rows table events room c.in_ok-check_lengths.ensures.0) c.in_ok-reading.ensures.0)
 
-pub read_sized-reading-requires : goal.read_sized-reading-requires
-read_sized-reading-requires c =
+pub returns-in_err-check_lengths : goal.returns-in_err-check_lengths
+returns-in_err-check_lengths c =
     let table : Table = table_of c.args.identifiers.now c.args.parent_identifiers.now c.args.shares.now in
     let events : Events = events_of c.args.classes.now c.args.lengths.now in
-    let room : Room = room_with c.args.order c.args.report c.args.lags c.args.working in
-    let lengths_fine : c.check_lengths-unfit.result.number ≡ 0 → (lengths_refused table events
-    room).number ≡ 0 = λ none. rw (← c.check_lengths-unfit.ensures) none in
-    whole_sized table events room (rw (← c.check_lengths-unfit.ensures) c.if-unfit-ne0.false)
+    let room : Room = room_in c.args.room in
+    handed _ (checked table events) c.from_residual.result _ c.from_residual.ensures.1
+    (stops_lengths table events room _ c.in_err-check_lengths.ensures)
 
-pub returns-then-bad-ne0 : goal.returns-then-bad-ne0
-returns-then-bad-ne0 c =
+pub read_sized-requires : goal.read_sized-requires
+read_sized-requires c =
     let table : Table = table_of c.args.identifiers.now c.args.parent_identifiers.now c.args.shares.now in
     let events : Events = events_of c.args.classes.now c.args.lengths.now in
-    let room : Room = room_with c.args.order c.args.report c.args.lags c.args.working in
-    let table_found : c.read_sized-reading.result.refusal ≡ table_refused table = ap (λ (reading : Reading). reading.refusal) c.read_sized-reading.ensures
-    ∙ answer_refusal (table_refused table) (tree_of table) in
-    let some = c.if-bad-ne0.true in
-    c.stopping-then-bad-ne0.ensures
-    ∙ checked_stops table events room c.read_sized-reading.result.refusal
-    (by_table table events room (rw (← c.check_lengths-unfit.ensures) c.if-unfit-ne0.false) (rw (← table_found) some) ∙ sym table_found) some
+    let room : Room = room_in c.args.room in
+    whole_sized table events room c.in_ok-check_lengths.ensures.0
 
-pub check_list-list-requires : goal.check_list-list-requires
-check_list-list-requires c =
+pub returns-in_err-reading : goal.returns-in_err-reading
+returns-in_err-reading c =
     let table : Table = table_of c.args.identifiers.now c.args.parent_identifiers.now c.args.shares.now in
     let events : Events = events_of c.args.classes.now c.args.lengths.now in
-    let room : Room = room_with c.args.order c.args.report c.args.lags c.args.working in
-    let none : (lengths_refused table events room).number ≡ 0 = rw (← c.check_lengths-unfit.ensures) c.if-unfit-ne0.false in
+    let room : Room = room_in c.args.room in
+    let result = c.from_residual-in_err-reading in
+    handed _ (checked table events) result.result _ result.ensures.1
+    (stops_table table events room _ c.in_ok-check_lengths.ensures.0 c.in_err-reading.ensures)
+
+pub check_list-requires : goal.check_list-requires
+check_list-requires c =
+    let table : Table = table_of c.args.identifiers.now c.args.parent_identifiers.now c.args.shares.now in
+    let events : Events = events_of c.args.classes.now c.args.lengths.now in
+    let room : Room = room_in c.args.room in
+    let none = c.in_ok-check_lengths.ensures.0 in
     let many = whole_listed table events room none in
     let size = whole_sized table events room none in
     (size.some, size.most, many.few, many.even)
 
-pub returns-then-refusal-ne0 : goal.returns-then-refusal-ne0
-returns-then-refusal-ne0 c =
+pub returns-in_err-event_rows : goal.returns-in_err-event_rows
+returns-in_err-event_rows c =
     let table : Table = table_of c.args.identifiers.now c.args.parent_identifiers.now c.args.shares.now in
     let events : Events = events_of c.args.classes.now c.args.lengths.now in
-    let room : Room = room_with c.args.order c.args.report c.args.lags c.args.working in
-    let lengths_fine : c.check_lengths-unfit.result.number ≡ 0 → (lengths_refused table events
-    room).number ≡ 0 = λ none. rw (← c.check_lengths-unfit.ensures) none in
-    let table_found : c.read_sized-reading.result.refusal ≡ table_refused table = ap (λ (reading : Reading). reading.refusal) c.read_sized-reading.ensures
-    ∙ answer_refusal (table_refused table) (tree_of table) in
-    let none : (lengths_refused table events room).number ≡ 0 = lengths_fine c.if-unfit-ne0.false in
-    let fine : (table_refused table).number ≡ 0 = rw (← table_found) c.if-bad-ne0.false in
-    let list_found : MeetsAll (tree_of table) events c.check_list-list.result = let r = c.read_sized-reading in
-    let found = ap (λ (reading : Reading). reading.senders) r.ensures ∙ answer_senders (table_refused table)
-    (tree_of table) fine in
-    c.check_list-list.ensures (tree_of table)
-    (subst (λ (senders : List Bool). Known (tree_of table) table.identifiers senders) (sym found)
-    (known table (whole_rows table events room none) fine)) in
-    let some = c.if-refusal-ne0.true in
-    c.stopping-then-refusal-ne0.ensures
-    ∙ checked_stops table events room c.check_list-list.result.refusal
-    (by_list table events room none fine (rw (← list_found.refusal) some) ∙ sym list_found.refusal)
-    some
+    let room : Room = room_in c.args.room in
+    let result = c.from_residual-in_err-event_rows in
+    let list = c.in_err-event_rows.ensures (tree_of table) (sending (goal.at.returns-in_err-event_rows c).In_ok-reading) in
+    handed _ (checked table events) result.result _ result.ensures.1
+    (past_table table events room (checked table events) (Err _) c.in_ok-check_lengths.ensures.0 c.in_ok-reading.ensures.0 list)
 
 pub returns : goal.returns
+unfolding checked
 returns c =
     let table : Table = table_of c.args.identifiers.now c.args.parent_identifiers.now c.args.shares.now in
     let events : Events = events_of c.args.classes.now c.args.lengths.now in
-    let room : Room = room_with c.args.order c.args.report c.args.lags c.args.working in
-    let lengths_fine : c.check_lengths-unfit.result.number ≡ 0 → (lengths_refused table events
-    room).number ≡ 0 = λ none. rw (← c.check_lengths-unfit.ensures) none in
-    let table_found : c.read_sized-reading.result.refusal ≡ table_refused table = ap (λ (reading : Reading). reading.refusal) c.read_sized-reading.ensures
-    ∙ answer_refusal (table_refused table) (tree_of table) in
-    let none : (lengths_refused table events room).number ≡ 0 = lengths_fine c.if-unfit-ne0.false in
-    let fine : (table_refused table).number ≡ 0 = rw (← table_found) c.if-bad-ne0.false in
-    let list_found : MeetsAll (tree_of table) events c.check_list-list.result = let r = c.read_sized-reading in
-    let found = ap (λ (reading : Reading). reading.senders) r.ensures ∙ answer_senders (table_refused table)
-    (tree_of table) fine in
-    c.check_list-list.ensures (tree_of table)
-    (subst (λ (senders : List Bool). Known (tree_of table) table.identifiers senders) (sym found)
-    (known table (whole_rows table events room none) fine)) in
-    let passed = c.if-refusal-ne0.false in
-    checked_whole table events room (table_refused table)
-    (by_none table events room none fine (rw (← list_found.refusal) passed))
-    fine c.read_sized-reading.result c.check_list-list.result.rows c.read_sized-reading.ensures
-    (list_found.rows passed)
+    let room : Room = room_in c.args.room in
+    let list = c.in_ok-event_rows.ensures (tree_of table) (sending (goal.at.returns c).In_ok-reading) in
+    let same : checked_of c.in_ok-reading.reading c.in_ok-event_rows.event_rows ≡ checked table events = rw (c.in_ok-reading.ensures.1, list.1) refl in
+    past_table table events room (checked table events) (Ok (checked_of c.in_ok-reading.reading c.in_ok-event_rows.event_rows))
+    c.in_ok-check_lengths.ensures.0 c.in_ok-reading.ensures.0 (list.0, same)
