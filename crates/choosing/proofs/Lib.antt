@@ -1,4 +1,3 @@
 -- What the proofs of a row's steps cite, and those of the steps up the tree.
-pub mod Filing
 pub mod Taking
 pub mod Ticks

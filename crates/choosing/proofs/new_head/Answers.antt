@@ -5,19 +5,11 @@ use Rattle.choosing.proofs.Ticks.{charged_fits}
 use Rattle.looking.proofs.Parts.{next_start_part}
 use Rattle.choosing.proofs.new_head.Goals as goal
 
-pub overflow_add-finishes : goal.overflow_add-finishes
-overflow_add-finishes c =
-    record { fits = rw (c.next_start-s.ensures, c.charge.ensures) (charged_fits c.requires.leeway _ _ _ _ _ c.requires.length_le_most_bytes) }
+pub overflow_add-rows : goal.overflow_add-rows
+overflow_add-rows c =
+    record { fits = rw (c.next_start-start.ensures, c.charge.ensures) (charged_fits c.requires.leeway _ _ _ _ _ c.requires.length_le_most_bytes) }
 
 pub returns : goal.returns
 unfolding new_head charged with_head
 returns c =
-    λ rows ids depths.
-    rw (
-      c.set_head.ensures.heads_after,
-      c.set_head.ensures.head_lengths_after,
-      c.set_head.ensures.head_classes_after,
-      next_start_part,
-      c.charge.ensures,
-      c.next_start-s.ensures,
-    )
+    λ n ids. rw (c.set_head.ensures.rows_after, next_start_part, c.charge.ensures, c.next_start-start.ensures)
