@@ -1,5 +1,4 @@
 -- Laws on the tests of packets, queues and rows.
-pub mod All
 pub mod Fitting
 pub mod Queues
 pub mod Tests

@@ -13,13 +13,16 @@ use Rattle.input.specs.Classes.{Tree, share}
 use Rattle.input.specs.Shares.{charge}
 use Rattle.rules.specs.Box.{Packet, head, head_length, head_class, start, finish, has_head}
 use Rattle.rules.specs.Box as run
+use Rattle.arrays.specs.declared.TreeArrays.{TreeArrays}
+use Rattle.arrays.specs.declared.RowArrays.{RowArrays}
+use Rattle.arrays.specs.declared.CountArrays.{CountArrays}
+use Rattle.holding.specs.declared.Walked.{Walked}
 use Rattle.live_rules.specs.State.{Live, queue, gone}
 use Rattle.live_rules.specs.Soundness.{all, headed, first_headed, sender_sound, inner_sound, holding_sound, tags_sound, level_most, untaken, sizes_sound, counts_sound, row_sound}
 use Rattle.holding.specs.Packets.{first_word, first_size}
 use Rattle.holding.specs.Row.{same_head, sender_test, inner_test, tags_test, most_at, tag_at, sizes_test, counts_test}
-use Rattle.holding.specs.Rows.{senders_tested, inners_tested, tags_tested, sizes_tested, counts_tested, Loaded}
+use Rattle.holding.specs.Rows.{senders_tested, inners_tested, tags_tested, sizes_tested, counts_tested, row_tested, Loaded}
 use Rattle.live_rules.proofs.Alls.{all_same}
-use Rattle.holding.proofs.All.{all_both}
 
 -- ── each test, of a live state's own lists ──
 
@@ -66,14 +69,16 @@ parted false c d = refl
 
 -- ── the lists that the code has ──
 
-module _ {n left : ℕ} {parents shares : List ℕ} {senders : List Bool} {starts finishes virtuals heads head_lengths head_classes : List ℕ} {bytes held since parent_since sums : List ℕ} {marks : List Bool} {counts firsts sizes : List ℕ} {live : Live} (l : Loaded n left parents shares senders starts finishes virtuals heads head_lengths head_classes bytes held since parent_since sums marks counts firsts sizes live) where
+module _
+    {n left : ℕ} {tree : TreeArrays} {senders : List Bool} {rows : RowArrays} {counts : CountArrays} {walked : Walked} {live : Live}
+    (l : Loaded n left tree senders rows counts walked live) where
   sender_so :
       (r : ℕ) → r < n
       → sender_sound live r
-      ≡ (eqb (get_or held r 0) (get_or counts r 0)
-      && (same_head (get_or heads r 0) (get_or head_lengths r 0) (get_or head_classes r 0) (get_or firsts r 0) (get_or sizes r 0)
-      (cond (eqb (get_or firsts r 0) 0) 0 r)
-      && eqb (get_or virtuals r 0) 0))
+      ≡ (eqb (get_or counts.held r 0) (get_or walked.firsts.counts r 0)
+      && (same_head (get_or rows.heads r 0) (get_or rows.head_lengths r 0) (get_or rows.head_classes r 0) (get_or walked.firsts.words r 0) (get_or walked.firsts.sizes r 0)
+      (cond (eqb (get_or walked.firsts.words r 0) 0) 0 r)
+      && eqb (get_or rows.virtuals r 0) 0))
   unfolding sender_sound
   sender_so r below =
       rw (
@@ -91,8 +96,8 @@ module _ {n left : ℕ} {parents shares : List ℕ} {senders : List Bool} {start
   inner_so :
       (r : ℕ) → r < n
       → inner_sound live r
-      ≡ (eqb (get_or held r 0) (get_or sums r 0)
-      && cond (eqb (get_or held r 0) 0) (same_head (get_or heads r 0) (get_or head_lengths r 0) (get_or head_classes r 0) 0 0 0) (get_or marks r false))
+      ≡ (eqb (get_or counts.held r 0) (get_or walked.sums r 0)
+      && cond (eqb (get_or counts.held r 0) 0) (same_head (get_or rows.heads r 0) (get_or rows.head_lengths r 0) (get_or rows.head_classes r 0) 0 0 0) (get_or walked.marks r false))
   unfolding inner_sound headed same_head
   inner_so r below =
       rw (
@@ -108,55 +113,32 @@ module _ {n left : ℕ} {parents shares : List ℕ} {senders : List Bool} {start
   holding_so :
       (r : ℕ) → r < n
       → holding_sound live r
-      ≡ (senders_tested senders held counts virtuals heads head_lengths head_classes firsts sizes r
-      && inners_tested senders held sums marks heads head_lengths head_classes r)
+      ≡ (senders_tested senders counts.held walked.firsts.counts rows.virtuals rows.heads rows.head_lengths rows.head_classes walked.firsts.words walked.firsts.sizes r
+      && inners_tested senders counts.held walked.sums walked.marks rows.heads rows.head_lengths rows.head_classes r)
   unfolding holding_sound senders_tested inners_tested sender_test inner_test
   holding_so r below = rw (l.senders_so r below, sender_so r below, inner_so r below) (parted (get_or senders r false) _ _)
 
-  tags_lists : (r : ℕ) → tags_sound live.tree live.rows r ≡ tags_tested shares starts finishes heads head_lengths r
+  tags_lists : (r : ℕ) → tags_sound live.tree live.rows r ≡ tags_tested tree.shares rows.starts rows.finishes rows.heads rows.head_lengths r
   tags_lists r =
       rw (← l.shares_so, ← l.starts_so, ← l.finishes_so, ← l.heads_so, ← l.head_lengths_so) (sym (tags_so live.tree live.rows r))
 
   sizes_lists :
-      (r : ℕ) → sizes_sound live.tree (gone live) live.rows r ≡ sizes_tested left parents starts finishes virtuals heads head_classes r
+      (r : ℕ) → sizes_sound live.tree (gone live) live.rows r ≡ sizes_tested left tree.parents rows.starts rows.finishes rows.virtuals rows.heads rows.head_classes r
   sizes_lists r =
       rw (← l.left_so, ← l.parents_so, ← l.starts_so, ← l.finishes_so, ← l.virtuals_so, ← l.heads_so, ← l.head_classes_so)
       (sym (sizes_so live.tree (gone live) live.rows r))
 
-  counts_lists : (r : ℕ) → counts_sound live r ≡ counts_tested left parents bytes since parent_since r
+  counts_lists : (r : ℕ) → counts_sound live r ≡ counts_tested left tree.parents counts.bytes counts.since counts.parent_since r
   counts_lists r =
       rw (← l.left_so, ← l.parents_so, ← l.bytes_so, ← l.since_so, ← l.parent_since_so) (sym (counts_so live r))
 
-  row_so :
-      (r : ℕ) → r < n
-      → row_sound live r
-      ≡ (senders_tested senders held counts virtuals heads head_lengths head_classes firsts sizes r
-      && (inners_tested senders held sums marks heads head_lengths head_classes r
-      && (tags_tested shares starts finishes heads head_lengths r
-      && (sizes_tested left parents starts finishes virtuals heads head_classes r && counts_tested left parents bytes since parent_since r))))
+  row_so : (r : ℕ) → r < n → row_sound live r ≡ row_tested left tree senders rows counts walked r
   unfolding row_sound
   row_so r below =
       ap₂ ◌&&◌ (holding_so r below) (ap₂ ◌&&◌ (tags_lists r) (ap₂ ◌&&◌ (sizes_lists r) (counts_lists r)))
-      ∙ and_assoc (senders_tested senders held counts virtuals heads head_lengths head_classes firsts sizes r)
-      (inners_tested senders held sums marks heads head_lengths head_classes r)
+      ∙ and_assoc (senders_tested senders counts.held walked.firsts.counts rows.virtuals rows.heads rows.head_lengths rows.head_classes walked.firsts.words walked.firsts.sizes r)
+      (inners_tested senders counts.held walked.sums walked.marks rows.heads rows.head_lengths rows.head_classes r)
       _
 
-  pub rows_so :
-      all n (row_sound live)
-      ≡ (all n (senders_tested senders held counts virtuals heads head_lengths head_classes firsts sizes)
-      && (all n (inners_tested senders held sums marks heads head_lengths head_classes)
-      && (all n (tags_tested shares starts finishes heads head_lengths)
-      && (all n (sizes_tested left parents starts finishes virtuals heads head_classes)
-      && all n (counts_tested left parents bytes since parent_since)))))
-  rows_so =
-      let senders_test = senders_tested senders held counts virtuals heads head_lengths head_classes firsts sizes in
-      let inners_test = inners_tested senders held sums marks heads head_lengths head_classes in
-      let tags_test = tags_tested shares starts finishes heads head_lengths in
-      let sizes_test = sizes_tested left parents starts finishes virtuals heads head_classes in
-      let counts_test = counts_tested left parents bytes since parent_since in
-      all_same n (row_sound live) (λ r. senders_test r && (inners_test r && (tags_test r && (sizes_test r && counts_test r)))) row_so
-      ∙ all_both senders_test (λ r. inners_test r && (tags_test r && (sizes_test r && counts_test r))) n
-      ∙ ap (λ (b : Bool). all n senders_test && b)
-      (all_both inners_test (λ r. tags_test r && (sizes_test r && counts_test r)) n
-      ∙ ap (λ (b : Bool). all n inners_test && b)
-      (all_both tags_test (λ r. sizes_test r && counts_test r) n ∙ ap (λ (b : Bool). all n tags_test && b) (all_both sizes_test counts_test n)))
+  pub rows_so : all n (row_sound live) ≡ all n (row_tested left tree senders rows counts walked)
+  rows_so = all_same n (row_sound live) (row_tested left tree senders rows counts walked) row_so

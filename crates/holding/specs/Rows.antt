@@ -1,16 +1,16 @@
 -- The tests of all rows, over a list for each quantity.
-use Rattle.std.specs.Prelude.{ℕ, ◌<◌, ◌≡◌, Bool, false, List, length, get_or}
+use Rattle.std.specs.Prelude.{ℕ, ◌<◌, ◌≡◌, Bool, false, ◌&&◌, List, length, get_or}
 use Rattle.input.specs.Limits.{most_rows}
 use Rattle.input.specs.Classes.{Tree}
 use Rattle.rules.specs.Box as run
+use Rattle.arrays.specs.declared.TreeArrays.{TreeArrays}
+use Rattle.arrays.specs.declared.RowArrays.{RowArrays}
+use Rattle.arrays.specs.declared.CountArrays.{CountArrays}
+use Rattle.holding.specs.declared.Walked.{Walked}
 use Rattle.live_rules.specs.State.{Live, queue, gone}
 use Rattle.live_rules.specs.Soundness.{all, any, children_sum, took_child, row_sound}
 use Rattle.holding.specs.Packets.{Senders, first_word, first_size}
 use Rattle.holding.specs.Row.{sender_test, inner_test, tags_test, sizes_test, counts_test}
-
--- every parent is a row that there can be
-abbrev pub Inside : List ℕ → Type 0
-Inside parents = (i : ℕ) → get_or parents i 0 < most_rows
 
 -- ── the heads that were passed on ──
 
@@ -50,28 +50,39 @@ counts_tested left parents bytes since parent_since r =
 
 -- ── the whole ──
 
+-- all tests of a row
+abbrev pub row_tested : ℕ → TreeArrays → List Bool → RowArrays → CountArrays → Walked → ℕ → Bool
+row_tested left tree senders rows counts walked r =
+    senders_tested senders counts.held walked.firsts.counts rows.virtuals rows.heads rows.head_lengths rows.head_classes walked.firsts.words
+    walked.firsts.sizes
+    r
+    && (inners_tested senders counts.held walked.sums walked.marks rows.heads rows.head_lengths rows.head_classes r
+    && (tags_tested tree.shares rows.starts rows.finishes rows.heads rows.head_lengths r
+    && (sizes_tested left tree.parents rows.starts rows.finishes rows.virtuals rows.heads rows.head_classes r
+    && counts_tested left tree.parents counts.bytes counts.since counts.parent_since r)))
+
 -- these are the lists of a live state, with its sending classes, what children hold, heads passed on, and firsts of queues
-pub record Loaded (n left : ℕ) (parents shares : List ℕ) (senders : List Bool) (starts finishes virtuals heads head_lengths head_classes : List ℕ) (bytes held since parent_since sums : List ℕ) (marks : List Bool) (counts firsts sizes : List ℕ) (live : Live) : Type 0 where
+pub record Loaded (n left : ℕ) (tree : TreeArrays) (senders : List Bool) (rows : RowArrays) (counts : CountArrays) (walked : Walked) (live : Live) : Type 0 where
   pub rows_so : live.tree.rows ≡ n
   pub left_so : gone live ≡ left
-  pub parents_so : live.tree.parents ≡ parents
-  pub shares_so : live.tree.shares ≡ shares
+  pub parents_so : live.tree.parents ≡ tree.parents
+  pub shares_so : live.tree.shares ≡ tree.shares
   pub senders_so : Senders live.tree n senders
-  pub starts_so : live.rows.starts ≡ starts
-  pub finishes_so : live.rows.finishes ≡ finishes
-  pub virtuals_so : live.rows.virtuals ≡ virtuals
-  pub heads_so : live.rows.heads ≡ heads
-  pub head_lengths_so : live.rows.head_lengths ≡ head_lengths
-  pub head_classes_so : live.rows.head_classes ≡ head_classes
-  pub bytes_so : live.bytes ≡ bytes
-  pub held_so : live.held ≡ held
-  pub since_so : live.since ≡ since
-  pub parent_since_so : live.parent_since ≡ parent_since
-  pub sums_so : (p : ℕ) → p < n → get_or sums p 0 ≡ children_sum live.tree held p n
-  pub marks_so : (p : ℕ) → p < n → get_or marks p false ≡ any n (took_child live.tree live.rows p)
-  pub counts_so : (k : ℕ) → k < n → get_or counts k 0 ≡ length (queue live.packets k)
-  pub firsts_so : (k : ℕ) → k < n → get_or firsts k 0 ≡ first_word (queue live.packets k)
-  pub sizes_so : (k : ℕ) → k < n → get_or sizes k 0 ≡ first_size (queue live.packets k)
+  pub starts_so : live.rows.starts ≡ rows.starts
+  pub finishes_so : live.rows.finishes ≡ rows.finishes
+  pub virtuals_so : live.rows.virtuals ≡ rows.virtuals
+  pub heads_so : live.rows.heads ≡ rows.heads
+  pub head_lengths_so : live.rows.head_lengths ≡ rows.head_lengths
+  pub head_classes_so : live.rows.head_classes ≡ rows.head_classes
+  pub bytes_so : live.bytes ≡ counts.bytes
+  pub held_so : live.held ≡ counts.held
+  pub since_so : live.since ≡ counts.since
+  pub parent_since_so : live.parent_since ≡ counts.parent_since
+  pub sums_so : (p : ℕ) → p < n → get_or walked.sums p 0 ≡ children_sum live.tree counts.held p n
+  pub marks_so : (p : ℕ) → p < n → get_or walked.marks p false ≡ any n (took_child live.tree live.rows p)
+  pub counts_so : (k : ℕ) → k < n → get_or walked.firsts.counts k 0 ≡ length (queue live.packets k)
+  pub firsts_so : (k : ℕ) → k < n → get_or walked.firsts.words k 0 ≡ first_word (queue live.packets k)
+  pub sizes_so : (k : ℕ) → k < n → get_or walked.firsts.sizes k 0 ≡ first_size (queue live.packets k)
 
 -- what `rows_sound` states of its result
 abbrev pub RowsTested : (Live → Type 0) → ℕ → Bool → Type 0

@@ -5,7 +5,7 @@ mod packets;
 mod row;
 mod rows;
 
-use input::RowWords;
+use input::{RowLongs, RowMarks, RowWords};
 pub use packets::{firsts_of, packets_sound};
 pub use rows::{matches_of, rows_sound};
 
@@ -15,4 +15,13 @@ pub struct Firsts {
     pub counts: RowWords,
     pub words: RowWords,
     pub sizes: RowWords,
+}
+
+// What one walk each works out before the rows are tested: what the children of each row hold, which rows have the head of a child, and what each
+// class's queue begins with.
+#[derive(Clone, Copy)]
+pub struct Walked {
+    pub sums: RowLongs,
+    pub marks: RowMarks,
+    pub firsts: Firsts,
 }

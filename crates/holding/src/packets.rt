@@ -10,6 +10,7 @@ use input::{LEAST_BYTES, MOST_BYTES, MOST_ROWS, RowMarks};
 use live_rules::{CLASSES_AT, LENGTHS_AT, NAMES_AT};
 
 // A packet by its numbers: of a row that sends, with the bytes of a packet, its name from `least` on and below `limit`.
+#[tactic(auto, unfolding(crate::specs::Packets::fits))]
 fn fits(
     n: usize,
     senders: &RowMarks,
@@ -23,22 +24,12 @@ fn fits(
     ensures { result ≡ fits n senders.now least limit class length name }
 {
     let k = class as usize;
-    if n <= k {
-        return false;
-    }
-    if !senders[k] {
-        return false;
-    }
-    if length < LEAST_BYTES as u64 {
-        return false;
-    }
-    if (MOST_BYTES as u64) < length {
-        return false;
-    }
-    if name < least {
-        return false;
-    }
-    name < limit
+    k < n
+        && senders[k]
+        && LEAST_BYTES as u64 <= length
+        && length <= MOST_BYTES as u64
+        && least <= name
+        && name < limit
 }
 
 // Whether the packets are of sending classes, with the bytes of a packet, and their names rise and stay below `limit`.
@@ -47,8 +38,7 @@ pub fn packets_sound(words: &[u64], m: usize, n: usize, senders: &RowMarks, limi
     ensures { PacketsTested words.now m n senders.now limit result }
 {
     let mut least = 0;
-    let mut i = 0;
-    while i < m {
+    for i in 0..m {
         let name = words[NAMES_AT + i];
         if !fits(
             n,
@@ -62,7 +52,6 @@ pub fn packets_sound(words: &[u64], m: usize, n: usize, senders: &RowMarks, limi
             return false;
         }
         least = name + 1;
-        i += 1;
     }
     true
 }
@@ -72,10 +61,7 @@ fn first(count: u32, old: u32, new: u64) -> u32
     requires { new < 2 ^ 32 }
     ensures { result ≡ cond (eqb count 0) new old }
 {
-    if count == 0 {
-        return new as u32;
-    }
-    old
+    if count == 0 { new as u32 } else { old }
 }
 
 // A row that there can be, as an index.
@@ -94,14 +80,12 @@ pub fn firsts_of(words: &[u64], m: usize) -> Firsts
     let mut counts = [0u32; MOST_ROWS];
     let mut firsts = [0u32; MOST_ROWS];
     let mut sizes = [0u32; MOST_ROWS];
-    let mut i = 0;
-    while i < m {
+    for i in 0..m {
         let k = row(words[CLASSES_AT + i]);
         let count = counts[k];
         firsts[k] = first(count, firsts[k], words[NAMES_AT + i] + 1);
         sizes[k] = first(count, sizes[k], words[LENGTHS_AT + i]);
         counts[k] = count + 1;
-        i += 1;
     }
     Firsts {
         counts,

@@ -5,7 +5,4 @@ use Rattle.holding.proofs.Queues.{Tally}
 use Rattle.holding.proofs.packets.firsts_of.Given as goal
 
 abbrev pub invariant-loop-i : goal.invariant-loop-i
-invariant-loop-i l = (l.i ≤ l.m) × Tally l.words l.i l.counts l.firsts l.sizes
-
-abbrev pub decreases-loop-i : goal.decreases-loop-i
-decreases-loop-i l = l.m - l.i
+invariant-loop-i l = Tally l.words l.i l.counts l.firsts l.sizes

@@ -13,14 +13,14 @@ use Rattle.holding.proofs.packets.packets_sound.Goals as goal
 
 pub loop-i-init : goal.loop-i-init
 unfolding all least_at
-loop-i-init c = (omega arith, refl, refl)
+loop-i-init c = (refl, refl)
 
 pub returns-then-not-fits : goal.returns-then-not-fits
 returns-then-not-fits c =
     let at = c.loop-i in
     let s = c.args in
     λ tree same marked.
-    let fails = fits_turn s.n s.senders.now s.limit s.words.now at.i at.least at.invariant.1
+    let fails = fits_turn s.n s.senders.now s.limit s.words.now at.i at.least at.invariant.0
     ∙ sym c.fits.ensures ∙ c.if-not-fits.true in
     sym (all_fails s.m (fits_at s.n s.senders.now s.limit s.words.now) at.i (omega arith) fails)
     ∙ packets_fit tree s.n s.senders.now same marked s.limit s.words.now s.m
@@ -38,9 +38,9 @@ unfolding all least_at
 loop-i-preserved c =
     let at = c.loop-i in
     let s = c.args in
-    let holds = fits_turn s.n s.senders.now s.limit s.words.now at.i at.least at.invariant.1
+    let holds = fits_turn s.n s.senders.now s.limit s.words.now at.i at.least at.invariant.0
     ∙ sym c.fits.ensures ∙ c.if-not-fits.false in
-    (omega arith, rw (add-one, add-one), rw (add-one, at.invariant.2, holds))
+    (rw (add-one, add-one), rw (add-one, at.invariant.1, holds))
 
 pub returns : goal.returns
 returns c =
@@ -48,4 +48,4 @@ returns c =
     let s = c.args in
     let end : at.i ≡ s.m = omega arith in
     λ tree same marked.
-    sym (rw end at at.invariant.2) ∙ packets_fit tree s.n s.senders.now same marked s.limit s.words.now s.m
+    sym (rw end at at.invariant.1) ∙ packets_fit tree s.n s.senders.now same marked s.limit s.words.now s.m

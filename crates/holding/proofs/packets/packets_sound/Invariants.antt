@@ -8,7 +8,4 @@ use Rattle.holding.specs.Packets.{fits_at, least_at}
 use Rattle.holding.proofs.packets.packets_sound.Given as goal
 
 abbrev pub invariant-loop-i : goal.invariant-loop-i
-invariant-loop-i l = (l.i ≤ l.m) × (l.least ≡ least_at l.words l.i) × (all l.i (fits_at l.n l.senders l.limit l.words) ≡ true)
-
-abbrev pub decreases-loop-i : goal.decreases-loop-i
-decreases-loop-i l = l.m - l.i
+invariant-loop-i l = (l.least ≡ least_at l.words l.i) × (all l.i (fits_at l.n l.senders l.limit l.words) ≡ true)

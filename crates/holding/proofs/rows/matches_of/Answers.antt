@@ -2,41 +2,46 @@
 -- Assumes nothing.
 use Prim.Native.Nat.{◌-◌}
 use mathlib.Core.Path.{◌≡◌, ◌∙◌}
-use mathlib.Core.Bool.{Bool, false}
-use lib.ListN.{length-set, length-replicate}
+use mathlib.Core.Bool.{Bool, false, ◌||◌}
+use lib.ListN.{get_or, length-set, length-replicate}
 use Rattle.input.specs.Limits.{most_rows}
+use Rattle.holding.specs.Row.{passed_on}
 use Rattle.holding.proofs.Passing.{matches_none, matches_more}
 use native.Mathlib.Omega.{arith}
 use Rattle.holding.proofs.rows.matches_of.Goals as goal
+use Rattle.holding.proofs.rows.matches_of.Goals.{then-marks-p, else-marks-p}
 
 pub loop-t-init : goal.loop-t-init
 loop-t-init c =
-    let s = c.args in (
-      omega arith,
-      length-replicate {A = Bool} most_rows false,
-      matches_none s.parents.now s.heads.now s.head_lengths.now s.head_classes.now,
-    )
-
-pub inside-p-requires : goal.inside-p-requires
-inside-p-requires c = c.requires.1 c.loop-t.t
+    let s = c.args in
+    (length-replicate {A = Bool} most_rows false, matches_none s.tree.now.parents s.rows.now.heads s.rows.now.head_lengths s.rows.now.head_classes)
 
 pub loop-t-preserved : goal.loop-t-preserved
 loop-t-preserved c =
     let at = c.loop-t in
     let s = c.args in
-    let row = c.inside-p in (
-      omega (arith, c.loop-t-test.true),
-      length-set at.marks row.result c.passed_on.result ∙ at.invariant.1,
-      matches_more s.parents.now s.heads.now s.head_lengths.now s.head_classes.now at.t at.marks row.result c.passed_on.result
+    let row = c.parent_of-p in
+    let rows = s.rows.now in
+    let passed = passed_on at.t (get_or rows.heads at.t 0) (get_or rows.head_lengths at.t 0) (get_or rows.head_classes at.t 0)
+    (get_or rows.heads row.result 0)
+    (get_or rows.head_lengths row.result 0)
+    (get_or rows.head_classes row.result 0) in
+    let marked : c.if-marks-p.marks ≡ (get_or at.marks row.result false || passed) =
+    elim c.if-marks-p.branch [
+      | then-marks-p w ↦ rw w.if-marks-p.true (w.marks-is ∙ w.if-marks-p.true)
+      | else-marks-p w ↦ rw w.if-marks-p.false (w.marks-is ∙ w.passed_on.ensures)
+    ] in (
+      length-set at.marks row.result c.if-marks-p.marks ∙ at.invariant.0,
+      matches_more s.tree.now.parents rows.heads rows.head_lengths rows.head_classes at.t at.marks row.result c.if-marks-p.marks
+          at.invariant.0
           at.invariant.1
-          at.invariant.2
           row.ensures.1
           row.ensures.0
-          c.passed_on.ensures,
+          marked,
     )
 
 pub returns : goal.returns
 returns c =
     let at = c.loop-t in
     let end : at.t ≡ c.args.n = omega arith in
-    rw end at at.invariant.2
+    rw end at at.invariant.1

@@ -8,7 +8,4 @@ use Rattle.holding.specs.Rows.{Matches}
 use Rattle.holding.proofs.rows.matches_of.Given as goal
 
 abbrev pub invariant-loop-t : goal.invariant-loop-t
-invariant-loop-t l = (l.t ≤ l.n) × (length l.marks ≡ most_rows) × Matches l.parents l.heads l.head_lengths l.head_classes l.t l.marks
-
-abbrev pub decreases-loop-t : goal.decreases-loop-t
-decreases-loop-t l = l.n - l.t
+invariant-loop-t l = (length l.marks ≡ most_rows) × Matches l.tree.parents l.rows.heads l.rows.head_lengths l.rows.head_classes l.t l.marks

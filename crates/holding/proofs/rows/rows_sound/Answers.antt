@@ -1,58 +1,16 @@
--- `holding::rows::rows_sound` meets its contract: the first part of the test that fails decides.
+-- `holding::rows::rows_sound` meets its contract: a walk over the rows tests each.
 -- Assumes nothing.
+use mathlib.Core.Path.{refl, sym, ◌∙◌}
+use borrow.Author.Rules.{rules}
+use borrow.Author.Tests.{tests}
+use Rattle.holding.specs.Rows.{row_tested}
+use Rattle.soundness.proofs.Alls.{all_tested}
 use Rattle.holding.proofs.Sound.{rows_so}
 use Rattle.holding.proofs.rows.rows_sound.Goals as goal
 
-pub returns-then-not-senders_sound : goal.returns-then-not-senders_sound
-returns-then-not-senders_sound c = λ live l. rw (
-  rows_so l,
-  ← c.senders_sound.ensures,
-  c.if-not-senders_sound.true,
-)
-
-pub returns-then-not-inners_sound : goal.returns-then-not-inners_sound
-returns-then-not-inners_sound c = λ live l. rw (
-  rows_so l,
-  ← c.senders_sound.ensures,
-  c.if-not-senders_sound.false,
-  ← c.inners_sound.ensures,
-  c.if-not-inners_sound.true,
-)
-
-pub returns-then-not-tags_sound : goal.returns-then-not-tags_sound
-returns-then-not-tags_sound c = λ live l. rw (
-  rows_so l,
-  ← c.senders_sound.ensures,
-  c.if-not-senders_sound.false,
-  ← c.inners_sound.ensures,
-  c.if-not-inners_sound.false,
-  ← c.tags_sound.ensures,
-  c.if-not-tags_sound.true,
-)
-
-pub returns-then-not-sizes_sound : goal.returns-then-not-sizes_sound
-returns-then-not-sizes_sound c = λ live l. rw (
-  rows_so l,
-  ← c.senders_sound.ensures,
-  c.if-not-senders_sound.false,
-  ← c.inners_sound.ensures,
-  c.if-not-inners_sound.false,
-  ← c.tags_sound.ensures,
-  c.if-not-tags_sound.false,
-  ← c.sizes_sound.ensures,
-  c.if-not-sizes_sound.true,
-)
-
 pub returns : goal.returns
-returns c = λ live l. rw (
-  rows_so l,
-  ← c.senders_sound.ensures,
-  c.if-not-senders_sound.false,
-  ← c.inners_sound.ensures,
-  c.if-not-inners_sound.false,
-  ← c.tags_sound.ensures,
-  c.if-not-tags_sound.false,
-  ← c.sizes_sound.ensures,
-  c.if-not-sizes_sound.false,
-  ← c.counts_sound.ensures,
-)
+returns c live l =
+    let a = c.args in
+    all_tested _ _ c.all.result a.n (row_tested a.left a.tree.now a.senders.now a.rows.now a.counts.now a.walked.now) c.all.ensures.ran refl
+    (λ x r q k. search (rules, tests))
+    ∙ sym (rows_so l)
