@@ -5,7 +5,6 @@ ghost use Rattle.std.specs.Prelude.{◌≡◌, true, false, MatchOption, List, [
 ghost use Rattle.std.proofs.Math.ListN as lists;
 ghost use Rattle.std.proofs.lemmas.List.Edits.{sets};
 ghost use Rattle.input.specs.Limits.{most_rows, most_bytes};
-ghost use Rattle.input.specs.Classes.{zeros};
 ghost use Rattle.hierarchy.specs.Next.{next_of};
 ghost use Rattle.live_rules.specs.Limits.{most_held};
 ghost use Rattle.arrays.specs.Arrays.{rows_in, tree_in};
@@ -25,13 +24,14 @@ use live_rules::{
 
 // ── lists of rows ──
 
-// The words of the first n rows from a place on, into an array of zeros, which stay for the rows out of use.
+// The words of the first n rows from a place on, into an array, with zeros for the rows out of use. It is filled where it stands, since arrays
+// that are handed on by value are copied each time.
 pub fn fill_longs(state: &[u64], at: usize, n: usize, list: &mut RowLongs)
     requires rows_few { n ≤ most_rows }
     requires state_room { at + most_rows ≤ lists.length state.now }
-    requires list_zero { list.old ≡ zeros }
     ensures { list.new ≡ rows_at at n state.now }
 {
+    *list = [0; MOST_ROWS];
     list[..n].copy_from_slice(&state[at..at + n]);
 }
 
@@ -40,10 +40,10 @@ pub fn fill_words(state: &[u64], at: usize, n: usize, most: u64, list: &mut RowW
     requires rows_few { n ≤ most_rows }
     requires state_room { at + most_rows ≤ lists.length state.now }
     requires most_small { most < 2 ^ 32 }
-    requires list_zero { list.old ≡ zeros }
     ensures value { result ≡ all n (λ (i : ℕ). leb (get_or state.now (at + i) 0) most) }
     ensures list_after { result ≡ true → list.new ≡ rows_at at n state.now }
 {
+    *list = [0; MOST_ROWS];
     for r in 0..n {
         let word = state[at + r];
         if word > most {

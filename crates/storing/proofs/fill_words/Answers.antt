@@ -15,7 +15,7 @@ use Rattle.storing.proofs.fill_words.Goals as goal
 
 pub loop-r-init : goal.loop-r-init
 unfolding zeros
-loop-r-init c = (all_none _, c.requires.list_zero ∙ rows_none c.args.at c.args.state.now)
+loop-r-init c = (all_none _, rows_none c.args.at c.args.state.now)
 
 pub returns-then-word-most : goal.returns-then-word-most
 returns-then-word-most c = let s = c.args in let test : ℕ → Bool = λ (i : ℕ). leb (get_or s.state.now (s.at + i) 0) s.most in record { value = sym (all_fails s.n test c.loop-r.r (omega arith) (lt-leb (get_or s.state.now (s.at + c.loop-r.r) 0) s.most (omega arith))); list_after = λ never. let z : ◌≡◌ {A = ℕ} 0 1 = cc in absurd (omega arith) }
