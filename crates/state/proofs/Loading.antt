@@ -34,11 +34,9 @@ module _ (words : List ℕ) (s : State) (read : Read words s) where
   left_so = sym (ap₂ (λ (a : ℕ) (b : ℕ). a - b) known.accepted known.packets)
 
   pub loaded :
-      (firsts : Firsts) (sums : List ℕ) (marks : List Bool) → FirstsTold words s.packets firsts → Sums s.rows s.parents s.held sums
-      → Matches s.parents s.heads s.head_lengths s.head_classes s.rows marks
-      → Loaded s.rows (s.accepted - s.packets) s.parents s.shares s.senders s.starts s.finishes s.virtuals s.heads
-      s.head_lengths s.head_classes s.bytes s.held s.since s.parent_since sums marks firsts.counts firsts.words
-      firsts.sizes live
+      (firsts : Firsts) (sums : List ℕ) (marks : List Bool) → FirstsTold words s.packets firsts → Sums s.rows_count s.tree.parents s.counts.held sums
+      → Matches s.tree.parents s.rows.heads s.rows.head_lengths s.rows.head_classes s.rows_count marks
+      → Loaded s.rows_count (s.accepted - s.packets) s.tree s.senders s.rows s.counts (record { sums = sums; marks = marks; firsts = firsts }) live
   loaded firsts sums marks told added passed =
       let few = read.few_rows in
       record {

@@ -9,7 +9,9 @@ use lib.ListN.{length, get_or, take}
 use Rattle.input.specs.Limits.{most_rows}
 use Rattle.input.specs.Lent.{tree_with}
 use Rattle.live_rules.specs.Limits.{most_held, most_accepted}
-use Rattle.live_rules.specs.Layout.{rows_word, identifiers_at, state_words}
+use Rattle.live_rules.specs.Layout.{rows_word, identifiers_at, parents_at, depths_at, shares_at, state_words, rows_at}
+use Rattle.live_rules.specs.Layout.{starts_at, finishes_at, virtuals_at, heads_at, head_lengths_at, head_classes_at}
+use Rattle.live_rules.specs.Layout.{bytes_at, held_at, since_at, parent_since_at}
 use Rattle.live_rules.specs.State.{Live, packets_at, tree_in, rows_in, live_with, live_in, events}
 use Rattle.live_rules.specs.Soundness.{all, few, tree_sound, packets_sound, in_order, row_sound}
 use Rattle.live_rules.proofs.Rows.{rows_first}
@@ -19,58 +21,9 @@ use Rattle.live_laws.proofs.Telling.{few_counted}
 use Rattle.holding.specs.Packets.{Senders, PacketsTested, Ranged}
 use Rattle.holding.proofs.Fitting.{sound_ranged}
 use Rattle.state.specs.Opened.{Opened}
-use Rattle.state.specs.Reading.{counts_of, filled, HasLists, Read}
+use Rattle.state.specs.Reading.{HasLists, Read}
 use Rattle.state.specs.declared.State.{State}
 use Rattle.state.proofs.Parts.{packets_so, rows_decide}
-
--- a state with another verdict
-abbrev judged_as : State → Bool → State
-judged_as s verdict =
-    record {
-      identifiers = s.identifiers;
-      parents = s.parents;
-      depths = s.depths;
-      shares = s.shares;
-      starts = s.starts;
-      finishes = s.finishes;
-      virtuals = s.virtuals;
-      heads = s.heads;
-      head_lengths = s.head_lengths;
-      head_classes = s.head_classes;
-      bytes = s.bytes;
-      held = s.held;
-      since = s.since;
-      parent_since = s.parent_since;
-      senders = s.senders;
-      rows = s.rows;
-      packets = s.packets;
-      accepted = s.accepted;
-      sound = verdict;
-    }
-
--- another verdict changes nothing else
-pub judged : (live : Live) (s : State) (verdict : Bool) → Opened live s → Opened live (judged_as s verdict)
-judged live s verdict known =
-    record {
-      rows = known.rows;
-      packets = known.packets;
-      accepted = known.accepted;
-      identifiers = known.identifiers;
-      parents = known.parents;
-      depths = known.depths;
-      shares = known.shares;
-      senders = known.senders;
-      starts = known.starts;
-      finishes = known.finishes;
-      virtuals = known.virtuals;
-      heads = known.heads;
-      head_lengths = known.head_lengths;
-      head_classes = known.head_classes;
-      bytes = known.bytes;
-      held = known.held;
-      since = known.since;
-      parent_since = known.parent_since;
-    }
 
 module _
     (words : List ℕ) (s : State) (long : state_words ≤ length words) (has : HasLists words s) where
@@ -78,31 +31,27 @@ module _
   live = live_in words
 
   abbrev n : ℕ
-  n = s.rows
+  n = s.rows_count
 
   abbrev m : ℕ
   m = s.packets
 
   -- ── the counts ──
 
-  rows_read : n ≡ get_or words rows_word 0
-  unfolding filled counts_of
-  rows_read = ap (λ (r : State). r.rows) has.same
-
   rows_so : n ≡ live.tree.rows
   unfolding live_in live_with tree_in
-  rows_so = rows_read
+  rows_so = has.rows
 
   packets_are : packets_at m words ≡ live.packets
-  unfolding filled counts_of live_in live_with
-  packets_are = ap (λ (r : State). packets_at r.packets words) has.same
+  unfolding live_in live_with
+  packets_are = ap (λ (k : ℕ). packets_at k words) has.packets
 
   held_so : m ≡ length live.packets
   held_so = sym (packets_length m words) ∙ ap length packets_are
 
   accepted_so : s.accepted ≡ live.accepted
-  unfolding filled counts_of live_in live_with
-  accepted_so = ap (λ (r : State). r.accepted) has.same
+  unfolding live_in live_with
+  accepted_so = has.accepted
 
   events_so : 2 * s.accepted - m ≡ events live
   unfolding events
@@ -128,31 +77,36 @@ module _
 
   -- ── the lists ──
 
+  -- a list of the first rows, by the word of their number
+  counted_list : (at : ℕ) (xs : List ℕ) → xs ≡ rows_at at n words → xs ≡ rows_at at (get_or words rows_word 0) words
+  counted_list at xs is = is ∙ ap (λ (k : ℕ). rows_at at k words) has.rows
+
   names_so : take n s.identifiers ≡ live.tree.identifiers
-  unfolding filled counts_of live_in live_with tree_in
+  unfolding live_in live_with tree_in
   names_so =
       let few = few_rows in
-      let is = rows_read in
-      ap (λ (r : State). take r.rows r.identifiers) has.same ∙ rows_first identifiers_at (get_or words rows_word 0) words (omega arith)
+      let is = has.rows in
+      ap₂ (λ (k : ℕ) (xs : List ℕ). take k xs) has.rows (counted_list identifiers_at s.identifiers has.tree.identifiers)
+      ∙ rows_first identifiers_at (get_or words rows_word 0) words (omega arith)
 
-  parents_so : s.parents ≡ live.tree.parents
-  unfolding filled counts_of live_in live_with tree_in
-  parents_so = ap (λ (r : State). r.parents) has.same
+  parents_so : s.tree.parents ≡ live.tree.parents
+  unfolding live_in live_with tree_in
+  parents_so = counted_list parents_at _ has.tree.parents
 
-  depths_so : s.depths ≡ live.tree.depths
-  unfolding filled counts_of live_in live_with tree_in
-  depths_so = ap (λ (r : State). r.depths) has.same
+  depths_so : s.tree.depths ≡ live.tree.depths
+  unfolding live_in live_with tree_in
+  depths_so = counted_list depths_at _ has.tree.depths
 
-  shares_so : s.shares ≡ live.tree.shares
-  unfolding filled counts_of live_in live_with tree_in
-  shares_so = ap (λ (r : State). r.shares) has.same
+  shares_so : s.tree.shares ≡ live.tree.shares
+  unfolding live_in live_with tree_in
+  shares_so = counted_list shares_at _ has.tree.shares
 
   -- which rows are sending classes
   sending : Senders live.tree n s.senders
   sending = has.sending live.tree (sym rows_so) (sym parents_so)
 
   opened : Opened live s
-  unfolding filled counts_of live_in live_with rows_in
+  unfolding live_in live_with rows_in
   opened =
       record {
         rows = rows_so;
@@ -163,21 +117,21 @@ module _
         depths = depths_so;
         shares = shares_so;
         senders = sending;
-        starts = ap (λ (r : State). r.starts) has.same;
-        finishes = ap (λ (r : State). r.finishes) has.same;
-        virtuals = ap (λ (r : State). r.virtuals) has.same;
-        heads = ap (λ (r : State). r.heads) has.same;
-        head_lengths = ap (λ (r : State). r.head_lengths) has.same;
-        head_classes = ap (λ (r : State). r.head_classes) has.same;
-        bytes = ap (λ (r : State). r.bytes) has.same;
-        held = ap (λ (r : State). r.held) has.same;
-        since = ap (λ (r : State). r.since) has.same;
-        parent_since = ap (λ (r : State). r.parent_since) has.same;
+        starts = counted_list starts_at _ has.starts;
+        finishes = counted_list finishes_at _ has.finishes;
+        virtuals = counted_list virtuals_at _ has.virtuals;
+        heads = counted_list heads_at _ has.heads.heads;
+        head_lengths = counted_list head_lengths_at _ has.heads.head_lengths;
+        head_classes = counted_list head_classes_at _ has.heads.head_classes;
+        bytes = counted_list bytes_at _ has.bytes;
+        held = counted_list held_at _ has.heads.held;
+        since = counted_list since_at _ has.since;
+        parent_since = counted_list parent_since_at _ has.parent_since;
       }
 
   -- ── the tree ──
 
-  pub tree_same : tree_sound (tree_with n (take n s.identifiers) s.parents s.depths s.shares) ≡ tree_sound live.tree
+  pub tree_same : tree_sound (tree_with n (take n s.identifiers) s.tree.parents s.tree.depths s.tree.shares) ≡ tree_sound live.tree
   tree_same = ap tree_sound (rw (names_so, parents_so, depths_so, shares_so, rows_so))
 
   -- ── the packets ──
@@ -203,10 +157,10 @@ module _
 
   -- ── the whole ──
 
-  pub read_so : (verdict : Bool) → tree_sound live.tree ≡ true → packets_so live ≡ true → Read words (judged_as s verdict)
-  read_so verdict tree_ok packets_ok =
+  pub read_so : tree_sound live.tree ≡ true → packets_so live ≡ true → Read words s
+  read_so tree_ok packets_ok =
       record {
-        opened = judged live s verdict opened;
+        opened = opened;
         few_rows = few_rows;
         few_packets = few_packets;
         arrived = arrived;

@@ -22,10 +22,11 @@ use Rattle.live_rules.proofs.Alls.{true_both, all_true, true_all}
 use Rattle.live_laws.proofs.Shape.{shaped_in}
 use Rattle.live_laws.proofs.Telling.{few_counted, sound_holds}
 use Rattle.live_laws.proofs.Narrowing.{narrow}
-use Rattle.holding.specs.Rows.{Inside}
-use Rattle.state.specs.Reading.{counts_of}
+use Rattle.arrays.specs.declared.TreeArrays.{TreeArrays}
+use Rattle.arrays.specs.Arrays.{Inside}
+use Rattle.state.specs.Reading.{counts_of, TreeFilled, at_most, largest_word, tree_small, heads_small}
 use Rattle.state.specs.declared.counts.Counts.{Counts}
-use Rattle.state.proofs.Parts.{refuted}
+use Rattle.state.proofs.Parts.{refuted, four_true}
 
 -- the first n rows are in use
 pub record InUse (words : List ℕ) (n : ℕ) : Type 0 where
@@ -41,26 +42,14 @@ in_use words n long same pass =
     let all = few_counted (live_in words) pass in
     record { long = long; rows = same; some = omega arith; few = omega arith }
 
--- what was counted of the words
-pub few_of : (words : List ℕ) (counts : Counts) (b : Bool) → counts ≡ counts_of words → counts.few ≡ b → few (live_in words) ≡ b
+-- by what was counted of the words
+pub counted_rows : (words : List ℕ) (counts : Counts) → counts ≡ counts_of words → counts.rows ≡ get_or words rows_word 0
 unfolding counts_of
-few_of words counts b same is = sym (ap (λ (c : Counts). c.few) same) ∙ is
-
-pub rows_of : (words : List ℕ) (counts : Counts) → counts ≡ counts_of words → counts.rows ≡ get_or words rows_word 0
-unfolding counts_of
-rows_of words counts same = ap (λ (c : Counts). c.rows) same
+counted_rows words counts same = ap (λ (c : Counts). c.rows) same
 
 pub counted_use :
-    (words : List ℕ) (counts : Counts) → state_words ≤ length words → counts ≡ counts_of words → counts.few ≡ true → InUse words counts.rows
-counted_use words counts long same pass = in_use words counts.rows long (rows_of words counts same) (few_of words counts true same pass)
-
--- the words of the first n rows from a place on are at most this
-abbrev at_most : List ℕ → ℕ → ℕ → ℕ → Bool
-at_most words n at most = all n (λ (i : ℕ). leb (get_or words (at + i) 0) most)
-
--- the code compares with the largest word of 32 bits
-abbrev largest_word : ℕ
-largest_word = 4294967295
+    (words : List ℕ) (counts : Counts) → state_words ≤ length words → (few (live_in words) ≡ true) × (counts ≡ counts_of words) → InUse words counts.rows
+counted_use words counts long told = in_use words counts.rows long (counted_rows words counts told.1) told.0
 
 module _ (words : List ℕ) (n : ℕ) (used : InUse words n) where
   narrow_in : sound (live_in words) ≡ true → Narrow (live_in words)
@@ -95,12 +84,7 @@ module _ (words : List ℕ) (n : ℕ) (used : InUse words n) where
   inside : (at : ℕ) → at ≤ 3840 → at + n ≤ length words
   inside at early = let long = used.long in let few = used.few in omega arith
 
-  abbrev tree_small : Bool
-  tree_small =
-      at_most words n identifiers_at most_identifier
-      && (at_most words n parents_at 255 && (at_most words n depths_at most_depth && at_most words n shares_at whole))
-
-  tree_fits : sound (live_in words) ≡ true → tree_small ≡ true
+  tree_fits : sound (live_in words) ≡ true → tree_small words n ≡ true
   unfolding live_in live_with tree_in
   tree_fits pass =
       let fits = narrow_in pass in
@@ -110,11 +94,11 @@ module _ (words : List ℕ) (n : ℕ) (used : InUse words n) where
       (rows_fit depths_at most_depth (inside depths_at (omega arith)) fits.depths)
       (rows_fit shares_at whole (inside shares_at (omega arith)) fits.shares)))
 
-  pub tree_unfit : tree_small ≡ false → sound (live_in words) ≡ false
+  pub tree_unfit : tree_small words n ≡ false → sound (live_in words) ≡ false
   tree_unfit large = refuted (sound (live_in words)) (λ pass. false≢true (sym large ∙ tree_fits pass))
 
   -- parents that fit are rows that there can be, those of rows out of use too
-  pub inside_so : (parents : List ℕ) → parents ≡ rows_at parents_at n words → at_most words n parents_at 255 ≡ true → Inside parents
+  inside_so : (parents : List ℕ) → parents ≡ rows_at parents_at n words → at_most words n parents_at 255 ≡ true → Inside parents
   inside_so parents same small r = go (dec_le n r)
     where
       go : Dec (n ≤ r) → get_or parents r 0 < most_rows
@@ -129,12 +113,14 @@ module _ (words : List ℕ) (n : ℕ) (used : InUse words n) where
           (all_true n (λ (i : ℕ). leb (get_or words (parents_at + i) 0) 255) small r (omega arith)) in
           omega arith
 
-  abbrev heads_small : Bool
-  heads_small =
-      at_most words n heads_at largest_word
-      && (at_most words n head_lengths_at most_bytes && (at_most words n head_classes_at 255 && at_most words n held_at most_held))
+  pub filled_inside : (names : List ℕ) (tree : TreeArrays) → TreeFilled words n names tree → tree_small words n ≡ true → Inside tree.parents
+  filled_inside names tree is small =
+      let (first, second, third, fourth) =
+      four_true (at_most words n identifiers_at most_identifier) (at_most words n parents_at 255) (at_most words n depths_at most_depth)
+      (at_most words n shares_at whole) small in
+      inside_so tree.parents is.parents second
 
-  heads_fit : sound (live_in words) ≡ true → heads_small ≡ true
+  heads_fit : sound (live_in words) ≡ true → heads_small words n ≡ true
   unfolding live_in live_with rows_in
   heads_fit pass =
       let fits = narrow_in pass in
@@ -146,5 +132,5 @@ module _ (words : List ℕ) (n : ℕ) (used : InUse words n) where
       (rows_fit head_classes_at 255 (inside head_classes_at (omega arith)) fits.head_classes)
       (rows_fit held_at most_held (inside held_at (omega arith)) fits.held)))
 
-  pub heads_unfit : heads_small ≡ false → sound (live_in words) ≡ false
+  pub heads_unfit : heads_small words n ≡ false → sound (live_in words) ≡ false
   heads_unfit large = refuted (sound (live_in words)) (λ pass. false≢true (sym large ∙ heads_fit pass))

@@ -2,7 +2,7 @@
 -- Assumes nothing.
 use Prim.Native.Nat.{ℕ, ◌<◌}
 use mathlib.Core.Path.{◌≡◌, sym, subst, ◌∙◌}
-use mathlib.Core.Bool.{false, true}
+use mathlib.Core.Bool.{Bool, false, true}
 use mathlib.Core.List.{List}
 use lib.ListN.{get_or, take}
 use Rattle.live_rules.specs.State.{Live}
@@ -11,24 +11,24 @@ use Rattle.state.specs.declared.State.{State}
 
 -- two states with the same counts, the same lists, and in the rows in use the same identifiers and sending classes
 pub record Alike (one other : State) : Type 0 where
-  pub rows : one.rows ≡ other.rows
+  pub rows : one.rows_count ≡ other.rows_count
   pub packets : one.packets ≡ other.packets
   pub accepted : one.accepted ≡ other.accepted
-  pub identifiers : take one.rows one.identifiers ≡ take other.rows other.identifiers
-  pub parents : one.parents ≡ other.parents
-  pub depths : one.depths ≡ other.depths
-  pub shares : one.shares ≡ other.shares
-  pub senders : (k : ℕ) → k < one.rows → get_or one.senders k false ≡ get_or other.senders k false
-  pub starts : one.starts ≡ other.starts
-  pub finishes : one.finishes ≡ other.finishes
-  pub virtuals : one.virtuals ≡ other.virtuals
-  pub heads : one.heads ≡ other.heads
-  pub head_lengths : one.head_lengths ≡ other.head_lengths
-  pub head_classes : one.head_classes ≡ other.head_classes
-  pub bytes : one.bytes ≡ other.bytes
-  pub held : one.held ≡ other.held
-  pub since : one.since ≡ other.since
-  pub parent_since : one.parent_since ≡ other.parent_since
+  pub identifiers : take one.rows_count one.identifiers ≡ take other.rows_count other.identifiers
+  pub parents : one.tree.parents ≡ other.tree.parents
+  pub depths : one.tree.depths ≡ other.tree.depths
+  pub shares : one.tree.shares ≡ other.tree.shares
+  pub senders : (k : ℕ) → k < one.rows_count → get_or one.senders k false ≡ get_or other.senders k false
+  pub starts : one.rows.starts ≡ other.rows.starts
+  pub finishes : one.rows.finishes ≡ other.rows.finishes
+  pub virtuals : one.rows.virtuals ≡ other.rows.virtuals
+  pub heads : one.rows.heads ≡ other.rows.heads
+  pub head_lengths : one.rows.head_lengths ≡ other.rows.head_lengths
+  pub head_classes : one.rows.head_classes ≡ other.rows.head_classes
+  pub bytes : one.counts.bytes ≡ other.counts.bytes
+  pub held : one.counts.held ≡ other.counts.held
+  pub since : one.counts.since ≡ other.counts.since
+  pub parent_since : one.counts.parent_since ≡ other.counts.parent_since
 
 alike : (live : Live) (one other : State) → Opened live one → Opened live other → Alike one other
 alike live one other first second =
@@ -54,9 +54,11 @@ alike live one other first second =
       parent_since = first.parent_since ∙ sym second.parent_since;
     }
 
-pub one_verdict : (words : List ℕ) (one other : State) → Opens words one → Opens words other → one.sound ≡ other.sound
-one_verdict words one other first second = first.0 ∙ sym second.0
+pub one_verdict :
+    (words : List ℕ) (b c : Bool) (one other : State) → Opens words b one → Opens words c other → b ≡ c
+one_verdict words b c one other first second = first.0 ∙ sym second.0
 
-pub one_state : (words : List ℕ) (one other : State) → Opens words one → Opens words other → one.sound ≡ true → Alike one other
-one_state words one other first second sound =
+pub one_state :
+    (words : List ℕ) (b c : Bool) (one other : State) → Opens words b one → Opens words c other → b ≡ true → Alike one other
+one_state words b c one other first second sound =
     alike _ one other (first.1 sound) (second.1 (second.0 ∙ sym first.0 ∙ sound))

@@ -1,13 +1,14 @@
-// The lists of a state, read from its words. A state stays in one place while its lists are filled, since arrays that are handed on by value are
-// copied each time.
-ghost use Rattle.std.specs.Prelude.{◌≡◌, false, ◌&&◌, [], ◌≤◌};
+// The lists of a state, read from its words.
+ghost use Rattle.std.specs.Prelude.{◌≡◌, true, ◌≤◌};
 ghost use Rattle.std.proofs.Math.ListN as lists;
+ghost use Rattle.input.specs.Limits.{most_rows};
 ghost use Rattle.live_rules.specs.Layout.{state_words};
-ghost use Rattle.state.specs.Reading.{filled, Fills};
+ghost use Rattle.state.specs.Reading.{Fills, tree_small, TreeFilled, heads_small, HeadsFilled, TagsFilled};
 
 use crate::State;
-use crate::counts::{Counts, counts_in};
-use input::{MOST_BYTES, MOST_DEPTH, MOST_IDENTIFIER, MOST_ROWS, WHOLE};
+use crate::counts::counts_in;
+use arrays::{CountArrays, RowArrays, TreeArrays};
+use input::{MOST_BYTES, MOST_DEPTH, MOST_IDENTIFIER, RowWords, WHOLE};
 use live_rules::{
     BYTES_AT, DEPTHS_AT, FINISHES_AT, HEAD_CLASSES_AT, HEAD_LENGTHS_AT, HEADS_AT, HELD_AT,
     IDENTIFIERS_AT, MOST_HELD, PARENT_SINCE_AT, PARENTS_AT, SHARES_AT, SINCE_AT, STARTS_AT,
@@ -20,86 +21,88 @@ const LAST_ROW: u64 = 255;
 
 const MOST_WORD: u64 = 4294967295;
 
-// A state with these counts and nothing else yet, not sound.
-fn blank(counts: Counts) -> State
-    ensures { result ≡ filled false result.senders false counts [] }
+// The tree of the first n rows: whether each word is as large as it can be at most.
+fn fill_tree(words: &[u64], n: usize, identifiers: &mut RowWords, tree: &mut TreeArrays) -> bool
+    requires { (n ≤ most_rows) × (state_words ≤ lists.length words.now) }
+    ensures fits { result ≡ tree_small words.now n }
+    ensures filled { result ≡ true → TreeFilled words.now n identifiers.new tree.new }
 {
-    let words = [0u32; MOST_ROWS];
-    let longs = [0u64; MOST_ROWS];
-    let marks = [false; MOST_ROWS];
-    State {
-        identifiers: words,
-        parents: words,
-        depths: words,
-        shares: words,
-        starts: longs,
-        finishes: longs,
-        virtuals: longs,
-        heads: words,
-        head_lengths: words,
-        head_classes: words,
-        bytes: longs,
-        held: words,
-        since: longs,
-        parent_since: longs,
-        senders: marks,
-        rows: counts.rows,
-        packets: counts.packets,
-        accepted: counts.accepted,
-        sound: false,
+    if !fill_words(
+        words,
+        IDENTIFIERS_AT,
+        n,
+        MOST_IDENTIFIER as u64,
+        identifiers,
+    ) {
+        return false;
     }
+    if !fill_words(words, PARENTS_AT, n, LAST_ROW, &mut tree.parents) {
+        return false;
+    }
+    if !fill_words(words, DEPTHS_AT, n, MOST_DEPTH as u64, &mut tree.depths) {
+        return false;
+    }
+    fill_words(words, SHARES_AT, n, WHOLE as u64, &mut tree.shares)
 }
 
-fn all_four(first: bool, second: bool, third: bool, fourth: bool) -> bool
-    ensures { result ≡ (first && (second && (third && fourth))) }
+// The heads and the packets that each row holds, likewise.
+fn fill_heads(words: &[u64], n: usize, rows: &mut RowArrays, counts: &mut CountArrays) -> bool
+    requires { (n ≤ most_rows) × (state_words ≤ lists.length words.now) }
+    ensures fits { result ≡ heads_small words.now n }
+    ensures filled { result ≡ true → HeadsFilled words.now n rows.new counts.new }
 {
-    if !first {
+    if !fill_words(words, HEADS_AT, n, MOST_WORD, &mut rows.heads) {
         return false;
     }
-    if !second {
+    if !fill_words(
+        words,
+        HEAD_LENGTHS_AT,
+        n,
+        MOST_BYTES as u64,
+        &mut rows.head_lengths,
+    ) {
         return false;
     }
-    if !third {
+    if !fill_words(words, HEAD_CLASSES_AT, n, LAST_ROW, &mut rows.head_classes) {
         return false;
     }
-    fourth
+    fill_words(words, HELD_AT, n, MOST_HELD as u64, &mut counts.held)
 }
 
-// All lists and the sending classes, where the counts are as many as there can be; where a word is too large, the state is not sound.
-pub fn with_lists(words: &[u64]) -> State
-    requires { state_words ≤ lists.length words.now }
-    ensures { Fills words.now result }
+// The tags and the counts of 64 bits.
+fn fill_tags(words: &[u64], n: usize, rows: &mut RowArrays, counts: &mut CountArrays)
+    requires { (n ≤ most_rows) × (state_words ≤ lists.length words.now) }
+    ensures { TagsFilled words.now n rows.old counts.old rows.new counts.new }
 {
-    let counts = counts_in(words);
-    let mut state = blank(counts);
-    if !counts.few {
-        return state;
+    fill_longs(words, STARTS_AT, n, &mut rows.starts);
+    fill_longs(words, FINISHES_AT, n, &mut rows.finishes);
+    fill_longs(words, VIRTUALS_AT, n, &mut rows.virtuals);
+    fill_longs(words, BYTES_AT, n, &mut counts.bytes);
+    fill_longs(words, SINCE_AT, n, &mut counts.since);
+    fill_longs(words, PARENT_SINCE_AT, n, &mut counts.parent_since);
+}
+
+impl State {
+    // All lists and the sending classes, where the counts are as many as there can be; false where they are not, or where a word is too large.
+    pub fn fill(&mut self, words: &[u64]) -> bool
+        requires { state_words ≤ lists.length words.now }
+        ensures { Fills words.now result self.new }
+    {
+        let Some(counts) = counts_in(words) else {
+            return false;
+        };
+        let n = counts.rows;
+        if !fill_tree(words, n, &mut self.identifiers, &mut self.tree) {
+            return false;
+        }
+        if !fill_heads(words, n, &mut self.rows, &mut self.counts) {
+            return false;
+        }
+        fill_tags(words, n, &mut self.rows, &mut self.counts);
+        self.senders = soundness::senders_of(n, &self.tree.parents);
+        self.rows_count = n;
+        self.packets = counts.packets;
+        self.accepted = counts.accepted;
+        true
     }
-    let n = counts.rows;
-    let most = MOST_IDENTIFIER as u64;
-    let first = fill_words(words, IDENTIFIERS_AT, n, most, &mut state.identifiers);
-    let second = fill_words(words, PARENTS_AT, n, LAST_ROW, &mut state.parents);
-    let third = fill_words(words, DEPTHS_AT, n, MOST_DEPTH as u64, &mut state.depths);
-    let fourth = fill_words(words, SHARES_AT, n, WHOLE as u64, &mut state.shares);
-    if !all_four(first, second, third, fourth) {
-        return state;
-    }
-    let most = MOST_BYTES as u64;
-    let first = fill_words(words, HEADS_AT, n, MOST_WORD, &mut state.heads);
-    let second = fill_words(words, HEAD_LENGTHS_AT, n, most, &mut state.head_lengths);
-    let third = fill_words(words, HEAD_CLASSES_AT, n, LAST_ROW, &mut state.head_classes);
-    let fourth = fill_words(words, HELD_AT, n, MOST_HELD as u64, &mut state.held);
-    if !all_four(first, second, third, fourth) {
-        return state;
-    }
-    fill_longs(words, STARTS_AT, n, &mut state.starts);
-    fill_longs(words, FINISHES_AT, n, &mut state.finishes);
-    fill_longs(words, VIRTUALS_AT, n, &mut state.virtuals);
-    fill_longs(words, BYTES_AT, n, &mut state.bytes);
-    fill_longs(words, SINCE_AT, n, &mut state.since);
-    fill_longs(words, PARENT_SINCE_AT, n, &mut state.parent_since);
-    let senders = soundness::senders_of(n, &state.parents);
-    state.senders = senders;
-    state.sound = true;
-    state
 }

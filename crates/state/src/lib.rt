@@ -1,85 +1,83 @@
 // A lent live state, read into arrays of rows and tested whole.
 #![tactic(auto)]
 
-ghost use Rattle.std.specs.Prelude.{◌≤◌};
+ghost use Rattle.std.specs.Prelude.{◌≡◌, ◌≤◌};
 ghost use Rattle.std.proofs.Math.ListN as lists;
 ghost use Rattle.live_rules.specs.Layout.{state_words};
 ghost use Rattle.state.specs.Opened.{Opens};
+ghost use Rattle.state.specs.Reading.{Read, RowsDecide};
 
 mod counts;
 mod filling;
 mod reading;
 
-use input::{RowLongs, RowMarks, RowWords};
+use arrays::{CountArrays, RowArrays, TreeArrays};
+use holding::Walked;
+use input::{MOST_ROWS, RowMarks, RowWords};
 
-// A state as it was read: whether it is sound, and where it is, its numbers as arrays with an entry for each row that there can be.
+// A state as it is read: its numbers as arrays with an entry for each row that there can be, the rows in use, and the packets held and accepted.
+// It stays in one place while it is read and changed, since arrays that are handed on by value are copied each time.
 #[derive(Clone, Copy)]
 pub struct State {
     pub identifiers: RowWords,
-    pub parents: RowWords,
-    pub depths: RowWords,
-    pub shares: RowWords,
-    pub starts: RowLongs,
-    pub finishes: RowLongs,
-    pub virtuals: RowLongs,
-    pub heads: RowWords,
-    pub head_lengths: RowWords,
-    pub head_classes: RowWords,
-    pub bytes: RowLongs,
-    pub held: RowWords,
-    pub since: RowLongs,
-    pub parent_since: RowLongs,
+    pub tree: TreeArrays,
+    pub rows: RowArrays,
+    pub counts: CountArrays,
     pub senders: RowMarks,
-    // Rows in use, packets held and packets accepted. They stand behind the arrays: before them, the compiled code copies the arrays more often.
-    pub rows: usize,
+    pub rows_count: usize,
     pub packets: usize,
     pub accepted: u64,
-    pub sound: bool,
 }
 
-// The state in the words: in the end what each class's queue begins with, what children hold and which heads were passed on, each from one walk,
-// and then every row.
-pub fn open(words: &[u64]) -> State
-    requires { state_words ≤ lists.length words.now }
-    ensures { Opens words.now result }
-{
-    let mut state = reading::read(words);
-    if !state.sound {
-        return state;
+impl State {
+    // The arrays before a state is read: no rows, no packets.
+    pub fn zeros() -> State
+        ensures { (result.rows_count ≡ 0) × (result.packets ≡ 0) × (result.accepted ≡ 0) }
+    {
+        State {
+            identifiers: [0; MOST_ROWS],
+            tree: TreeArrays::zeros(),
+            rows: RowArrays::zeros(),
+            counts: CountArrays::zeros(),
+            senders: [false; MOST_ROWS],
+            rows_count: 0,
+            packets: 0,
+            accepted: 0,
+        }
     }
-    let n = state.rows;
-    let left = state.accepted - state.packets as u64;
-    let firsts = holding::firsts_of(words, state.packets);
-    let sums = soundness::children_sums(n, &state.parents, &state.held);
-    let marks = holding::matches_of(
-        n,
-        &state.parents,
-        &state.heads,
-        &state.head_lengths,
-        &state.head_classes,
-    );
-    let sound = holding::rows_sound(
-        n,
-        left,
-        &state.parents,
-        &state.shares,
-        &state.senders,
-        &state.starts,
-        &state.finishes,
-        &state.virtuals,
-        &state.heads,
-        &state.head_lengths,
-        &state.head_classes,
-        &state.bytes,
-        &state.held,
-        &state.since,
-        &state.parent_since,
-        &sums,
-        &marks,
-        &firsts.counts,
-        &firsts.words,
-        &firsts.sizes,
-    );
-    state.sound = sound;
-    state
+
+    // Reads the state in the words, whatever was here: whether it is sound. If not, what stands here means nothing.
+    pub fn open(&mut self, words: &[u64]) -> bool
+        requires { state_words ≤ lists.length words.now }
+        ensures { Opens words.now result self.new }
+    {
+        self.read(words) && self.rows_sound(words)
+    }
+
+    // The last test: what each class's queue begins with, what children hold and which heads were passed on, each from one walk, and then every row.
+    fn rows_sound(&self, words: &[u64]) -> bool
+        requires room { state_words ≤ lists.length words.now }
+        requires was_read { Read words.now self.now }
+        ensures { RowsDecide words.now self.now result }
+    {
+        let n = self.rows_count;
+        let left = self.accepted - self.packets as u64;
+        let firsts = holding::firsts_of(words, self.packets);
+        let sums = soundness::children_sums(n, &self.tree.parents, &self.counts.held);
+        let marks = holding::matches_of(n, &self.tree, &self.rows);
+        let walked = Walked {
+            sums,
+            marks,
+            firsts,
+        };
+        holding::rows_sound(
+            n,
+            left,
+            &self.tree,
+            &self.senders,
+            &self.rows,
+            &self.counts,
+            &walked,
+        )
+    }
 }

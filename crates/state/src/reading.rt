@@ -2,33 +2,30 @@
 ghost use Rattle.std.specs.Prelude.{◌≤◌};
 ghost use Rattle.std.proofs.Math.ListN as lists;
 ghost use Rattle.live_rules.specs.Layout.{state_words};
-ghost use Rattle.state.specs.Reading.{ReadTold};
+ghost use Rattle.state.specs.Reading.{HasLists, PartsTold, ReadTold};
 
 use crate::State;
-use crate::filling::with_lists;
 
-pub fn read(words: &[u64]) -> State
-    requires { state_words ≤ lists.length words.now }
-    ensures { ReadTold words.now result }
-{
-    let mut state = with_lists(words);
-    if !state.sound {
-        return state;
+impl State {
+    pub fn read(&mut self, words: &[u64]) -> bool
+        requires { state_words ≤ lists.length words.now }
+        ensures { ReadTold words.now result self.new }
+    {
+        self.fill(words) && self.parts_sound(words)
     }
-    let n = state.rows;
-    state.sound = false;
-    if !soundness::tree_sound(
-        n,
-        &state.identifiers,
-        &state.parents,
-        &state.depths,
-        &state.shares,
-    ) {
-        return state;
+
+    // Whether the tree and the packets are sound.
+    fn parts_sound(&self, words: &[u64]) -> bool
+        requires room { state_words ≤ lists.length words.now }
+        requires filled { HasLists words.now self.now }
+        ensures { PartsTold words.now self.now result }
+    {
+        let n = self.rows_count;
+        let m = self.packets;
+        if !soundness::tree_sound(n, &self.identifiers, &self.tree) {
+            return false;
+        }
+        let events = 2 * self.accepted - m as u64;
+        holding::packets_sound(words, m, n, &self.senders, events)
     }
-    let m = state.packets;
-    let events = 2 * state.accepted - m as u64;
-    let sound = holding::packets_sound(words, m, n, &state.senders, events);
-    state.sound = sound;
-    state
 }
