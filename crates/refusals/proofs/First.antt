@@ -18,7 +18,7 @@ use Rattle.laws.proofs.Tree.Trees.{first_none, below_none, given_none, place_mos
 use Rattle.laws.proofs.Tree.Paths.{child_kid}
 use Rattle.tables.specs.Sized.{Sized}
 use Rattle.tables.proofs.Firsts.{Plain, or_else_first, or_else_second, given_plain, row_plain, first_append}
-use Rattle.refusals.specs.All.{child_share, children_share, listed, sum_refusal, all_refused}
+use Rattle.refusals.specs.All.{child_share, children_share, listed, sum_refused, sum_refusal, all_refused}
 
 -- ── the first of a list and of many are one ──
 
@@ -75,7 +75,7 @@ module _ (table : Table) (sized : Sized table) where
     same_sum p (suc m) few = ap₂ ◌+◌ (same_sum p m (omega arith)) (same_child p m (omega arith))
 
     same_refusal : (p : ℕ) → sum_refusal (tree_of table) n p ≡ shares_refused table p
-    unfolding sum_refusal shares_refused
+    unfolding sum_refused sum_refusal shares_refused
     same_refusal p = rw (same_sum p n (omega arith)) refl
 
     same_first : (m : ℕ) → first_below (sum_refusal (tree_of table) n) m ≡ first_below (shares_refused table) m
@@ -84,7 +84,7 @@ module _ (table : Table) (sized : Sized table) where
     same_first (suc m) = ap₂ or_else (same_first m) (same_refusal m)
 
   sum_plain : (p : ℕ) → Plain (sum_refusal (tree_of table) n p)
-  unfolding sum_refusal
+  unfolding sum_refused sum_refusal
   sum_plain p = given_plain _ 10 p (omega arith)
 
   pub first_is_the_runs : first (all_refused table) ≡ table_refused table

@@ -1,62 +1,64 @@
--- The numbers that a table is judged by are those of its refusals, one by one.
+-- What a table is judged by are its refusals, one by one.
 -- Assumes nothing.
-use Prim.Native.Nat.{ℕ, zero, suc, ◌≤◌, ◌<◌}
-use mathlib.Core.Path.{◌≡◌, refl, ◌∙◌}
-use mathlib.Core.Bool.{Bool, true, false, cond}
+use Prim.Native.Nat.{ℕ, ◌≤◌, ◌<◌}
+use mathlib.Core.Path.{◌≡◌, refl, sym, ◌∙◌, ap}
 use native.Mathlib.Decide.{ℕ_discrete}
-use native.Mathlib.Omega.{arith}
-use lib.Dec.{ltb}
-use lib.ListN.{length, get_or, set, length-set}
-use lib.Seq.{get_or-set_same, get_or-set_other}
-use borrow.Author.Tests.{eq-eqb}
-use Rattle.input.specs.Limits.{most_rows, whole}
-use Rattle.input.specs.Classes.{Table, Tree, tree_of}
-use Rattle.input.specs.Refusals.{given, nothing, rows_refused, row_refused}
-use Rattle.laws.proofs.Tree.Trees.{zeros_full}
-use Rattle.tables.specs.Answers.{below}
-use Rattle.refusals.specs.All.{children_share, sum_number, sum_refused, sum_refusal, row_by_row, judged}
+use lib.ListN.{length, get_or}
+use borrow.Author.Tests.{eq-eqb, ne_eqb}
+use Rattle.std.specs.Prelude.{Option, Some, None, Ok}
+use Rattle.input.specs.declared.Refusal.{Refusal}
+use Rattle.input.specs.Limits.{most_rows}
+use Rattle.input.specs.Classes.{Table, tree_of}
+use Rattle.input.specs.Refusals.{nothing, row_refused}
+use Rattle.tables.specs.Judged.{verdict}
+use Rattle.tables.proofs.Firsts.{Plain, row_plain}
+use Rattle.tables.proofs.Answering.{verdict_at}
+use Rattle.refusals.specs.declared.Judged.{Judged}
+use Rattle.refusals.specs.All.{sum_refusal, row_by_row}
+use Rattle.refusals.specs.Stated.{Judges}
 
-below_full : (at : ℕ → ℕ) (n : ℕ) → length (below at n) ≡ most_rows
-unfolding below
-below_full at zero = zeros_full
-below_full at (suc n) = length-set (below at n) n (at n) ∙ below_full at n
+-- the number of what refuses, and its second place; 0 where nothing does
+abbrev pub number_of : Option Refusal → ℕ
+number_of None = 0
+number_of (Some refusal) = refusal.number
 
--- each row below n has its number
-pub below_at : (at : ℕ → ℕ) (n : ℕ) → n ≤ most_rows → (r : ℕ) → r < n → get_or (below at n) r 0 ≡ at r
-unfolding below
-below_at at zero few r inside = absurd (omega arith)
-below_at at (suc n) few r inside = go (ℕ_discrete r n) (below_at at n (omega arith) r)
+abbrev pub second_of : Option Refusal → ℕ
+second_of None = 0
+second_of (Some refusal) = refusal.second
+
+verdict_number : (refusal : Refusal) → number_of (verdict refusal) ≡ refusal.number
+unfolding verdict
+verdict_number refusal = go (ℕ_discrete refusal.number 0)
   where
-    go : Dec (r ≡ n) → (r < n → get_or (below at n) r 0 ≡ at r) → get_or (set (below at n) n (at n)) r 0 ≡ at r
-    go (yes same) before = rw same (get_or-set_same (below at n) n (at n) 0 (omega (arith, below_full at n)))
-    go (no other) before = get_or-set_other (below at n) n r (at n) 0 other ∙ before (omega arith)
+    go : Dec (refusal.number ≡ 0) → number_of (verdict refusal) ≡ refusal.number
+    go (yes none) = rw (eq-eqb refusal.number 0 none) (sym none)
+    go (no some) = rw (ne_eqb refusal.number 0 some) refl
 
-sum_test : (b : Bool) (p : ℕ) → (given b 10 p).number ≡ cond b 10 0
-unfolding given nothing
-sum_test true p = refl
-sum_test false p = refl
-
-pub sum_refusal_number : (tree : Tree) (rows p : ℕ) → (sum_refusal tree rows p).number ≡ sum_refused tree rows p
-unfolding sum_refusal sum_refused sum_number
-sum_refusal_number tree rows p = sum_test (ltb whole (children_share tree p rows)) p
+verdict_second : (refusal : Refusal) → Plain refusal → second_of (verdict refusal) ≡ refusal.second
+unfolding verdict nothing
+verdict_second refusal plain = go (ℕ_discrete refusal.number 0)
+  where
+    go : Dec (refusal.number ≡ 0) → second_of (verdict refusal) ≡ refusal.second
+    go (yes none) = rw (eq-eqb refusal.number 0 none) (sym (ap (λ (r : Refusal). r.second) (plain none)))
+    go (no some) = rw (ne_eqb refusal.number 0 some) refl
 
 -- of a table that is not refused for its number of rows
-module _ (table : Table) (fine : (rows_refused table).number ≡ 0) (few : length table.identifiers ≤ most_rows) (r : ℕ)
+module _ (table : Table) (judged : Judged) (judges : Judges table (Ok judged)) (few : length table.identifiers ≤ most_rows) (r : ℕ)
     (inside : r < length table.identifiers) where
-  rows_judged : judged table ≡ row_by_row (rows_refused table) table
-  unfolding judged
-  rows_judged = rw (eq-eqb (rows_refused table).number 0 fine)
-
-  pub own_number : get_or (judged table).numbers r 0 ≡ (row_refused table r).number
+  -- each row has its own refusal
+  pub own_refusal : get_or judged.refusals r None ≡ verdict (row_refused table r)
   unfolding row_by_row
-  own_number = rw rows_judged (below_at (λ (i : ℕ). (row_refused table i).number) _ few r inside)
+  own_refusal = rw judges.1 (verdict_at (row_refused table) (length table.identifiers) few r inside)
 
-  pub own_second : get_or (judged table).seconds r 0 ≡ (row_refused table r).second
-  unfolding row_by_row
-  own_second = rw rows_judged (below_at (λ (i : ℕ). (row_refused table i).second) _ few r inside)
+  pub own_number : number_of (get_or judged.refusals r None) ≡ (row_refused table r).number
+  own_number = ap number_of own_refusal ∙ verdict_number (row_refused table r)
 
-  pub own_sum : get_or (judged table).sums r 0 ≡ (sum_refusal (tree_of table) (length table.identifiers) r).number
+  pub own_second : second_of (get_or judged.refusals r None) ≡ (row_refused table r).second
+  own_second = ap second_of own_refusal ∙ verdict_second (row_refused table r) (row_plain table r)
+
+  sum_verdict : get_or judged.sums r None ≡ verdict (sum_refusal (tree_of table) (length table.identifiers) r)
   unfolding row_by_row
-  own_sum =
-      rw (rows_judged, sum_refusal_number (tree_of table) (length table.identifiers) r)
-      (below_at (sum_refused (tree_of table) (length table.identifiers)) _ few r inside)
+  sum_verdict = rw judges.1 (verdict_at (sum_refusal (tree_of table) (length table.identifiers)) (length table.identifiers) few r inside)
+
+  pub own_sum : number_of (get_or judged.sums r None) ≡ (sum_refusal (tree_of table) (length table.identifiers) r).number
+  own_sum = ap number_of sum_verdict ∙ verdict_number (sum_refusal (tree_of table) (length table.identifiers) r)

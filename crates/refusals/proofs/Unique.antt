@@ -1,10 +1,11 @@
 -- The contract leaves no choice.
 -- Assumes nothing.
 use Rattle.words.specs.Unique.{Unique}
-use Rattle.words.proofs.Determined.{determined}
 use Rattle.input.specs.Classes.{Table}
-use Rattle.refusals.specs.All.{judged}
+use Rattle.input.specs.Refusals.{rows_refused}
+use Rattle.tables.proofs.Unique.{one_judged}
+use Rattle.refusals.specs.All.{row_by_row}
 use Rattle.refusals.specs.Stated.{Judges}
 
 pub one_judgement : (table : Table) → Unique (Judges table)
-one_judgement table = determined (judged table)
+one_judgement table = one_judged (rows_refused table) (row_by_row table)

@@ -9,7 +9,7 @@ use Rattle.refusals.proofs.children_share.Goals as goal
 
 pub loop-r-init : goal.loop-r-init
 unfolding children_share
-loop-r-init c = (omega arith, omega arith, λ tree e1 e2. refl)
+loop-r-init c = (omega arith, λ tree e1 e2. refl)
 
 pub overflow_add-sum : goal.overflow_add-sum
 overflow_add-sum c = omega (arith, c.child_share-sum.ensures.0)
@@ -17,12 +17,11 @@ overflow_add-sum c = omega (arith, c.child_share-sum.ensures.0)
 pub loop-r-preserved : goal.loop-r-preserved
 unfolding children_share
 loop-r-preserved c = (
-  omega arith,
   omega (arith, c.child_share-sum.ensures.0),
-  λ tree e1 e2. rw add-one (ap₂ ◌+◌ (c.loop-r.invariant.2 tree e1 e2) (c.child_share-sum.ensures.1 tree e1 e2)),
+  λ tree e1 e2. rw add-one (ap₂ ◌+◌ (c.loop-r.invariant.1 tree e1 e2) (c.child_share-sum.ensures.1 tree e1 e2)),
 )
 
 pub returns : goal.returns
 returns c tree e1 e2 =
     let end : c.loop-r.r ≡ c.args.rows = omega arith in
-    rw (← end) (c.loop-r.invariant.2 tree e1 e2)
+    rw (← end) (c.loop-r.invariant.1 tree e1 e2)

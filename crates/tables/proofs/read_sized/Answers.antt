@@ -26,10 +26,10 @@ unfolding table_refused
 returns-in_err-shares_refused c =
     let t : Table = table_of c.args.identifiers.now c.args.parent_identifiers.now c.args.shares.now in
     let rows = c.read_rows-rows in
-    let none = c.in_ok-first_refused.ensures (row_refused t) (refusals_read t rows.result rows.ensures c.requires.most) in
     let sums = c.in_err-shares_refused.ensures t refl (parents_read t rows.result rows.ensures) (shares_read t rows.result rows.ensures) in
     at_second (first_below (row_refused t) (length t.identifiers)) (first_below (shares_refused t) (length t.identifiers))
-    (accepting (tree_of t)) c.from_residual-in_err-shares_refused.result none.0
+    (accepting (tree_of t)) c.from_residual-in_err-shares_refused.result
+    (c.in_ok-first_refused.ensures (row_refused t) (refusals_read t rows.result rows.ensures c.requires.most)).0
     (handed _ (accepting (tree_of t)) c.from_residual-in_err-shares_refused.result _ c.from_residual-in_err-shares_refused.ensures.1 sums)
 
 pub returns : goal.returns
