@@ -2,7 +2,7 @@
 -- Assumes nothing.
 use Prim.Native.Nat.{ℕ, zero, suc, ◌-◌, ◌<◌}
 use mathlib.Core.Path.{◌≡◌, refl, sym, ◌∙◌, subst}
-use mathlib.Core.Bool.{Bool, true, false}
+use mathlib.Core.Bool.{true, false}
 use mathlib.Core.List.{List}
 use native.Mathlib.Numerals.{sub-one}
 use native.Mathlib.Omega.{arith}
@@ -11,16 +11,13 @@ use Rattle.rules.specs.declared.Why.{Why}
 use Rattle.input.specs.Classes.{Tree, parent}
 use Rattle.rules.specs.Box.{Rows, has_head}
 use Rattle.rules.specs.Steps.{chooses, up}
-use Rattle.input.specs.Lent.{tree_with}
 use Rattle.laws.specs.Sound.{Sound, Kid}
 use Rattle.laws.proofs.Level.Heads.{has_false}
 use Rattle.laws.proofs.Tree.Paths.{at_root, parent_is_inner}
 use Rattle.laws.proofs.Tree.Depths.{kid_deeper, lower_kid}
-use Rattle.heaps.specs.Heaps.{Forest}
-use Rattle.arrays.specs.Arrays.{has_head_of}
-use Rattle.looking.proofs.Parts.{head_part}
-use Rattle.choosing.specs.declared.Way.{Way}
-use Rattle.choosing.specs.Filed.{Filed, Chooses, Chosen}
+use Rattle.arrays.specs.declared.TreeArrays.{TreeArrays}
+use Rattle.arrays.specs.Arrays.{tree_in}
+use Rattle.choosing.specs.Filed.{Filing, Chooses, Chosen}
 use Rattle.hierarchy.specs.Climbing.{Climbs, Settles}
 
 module _ (tree : Tree) (why : Why) (r : ℕ) (rows : Rows) where
@@ -42,102 +39,101 @@ module _ (tree : Tree) (why : Why) (r : ℕ) (rows : Rows) where
 -- what remains to be done from row r, which is at depth d, is all that was to be done from the row at first, in any tree that has these parents
 -- and shares
 pub record Rising
-    (way : Way) (parents shares : List ℕ) (why : Why) (row depth : ℕ) (before : Rows) (f₀ : Forest) (d r : ℕ) (now : Rows) (f : Forest)
+    (Begun : Filing) (arrays : TreeArrays) (why : Why) (row depth : ℕ) (before : Rows) (Filed : Filing) (d r : ℕ) (now : Rows)
     : Type 0 where
   pub climbs :
-      (n : ℕ) (ids depths : List ℕ) (class_of : ℕ → ℕ) → Climbs way (tree_with n ids parents depths shares) class_of before row depth f₀
-      → Climbs way (tree_with n ids parents depths shares) class_of now r d f
+      (n : ℕ) (ids : List ℕ) (class_of : ℕ → ℕ) → Climbs Begun (tree_in n ids arrays) class_of before row depth
+      → Climbs Filed (tree_in n ids arrays) class_of now r d
   pub same :
-      (n : ℕ) (ids depths : List ℕ) (class_of : ℕ → ℕ) → Climbs way (tree_with n ids parents depths shares) class_of before row depth f₀
-      → up d (tree_with n ids parents depths shares) why r now ≡ up depth (tree_with n ids parents depths shares) why row before
+      (n : ℕ) (ids : List ℕ) (class_of : ℕ → ℕ) → Climbs Begun (tree_in n ids arrays) class_of before row depth
+      → up d (tree_in n ids arrays) why r now ≡ up depth (tree_in n ids arrays) why row before
 
-module _ (way : Way) (parents shares : List ℕ) (why : Why) (row depth : ℕ) (before : Rows) (f₀ : Forest) where
-  pub rising_all : Rising way parents shares why row depth before f₀ depth row before f₀
-  rising_all = record { climbs = λ n ids depths class_of begins. begins; same = λ n ids depths class_of begins. refl }
+module _ (Begun : Filing) (arrays : TreeArrays) (why : Why) (row depth : ℕ) (before : Rows) where
+  pub rising_all : Rising Begun arrays why row depth before Begun depth row before
+  rising_all = record { climbs = λ n ids class_of begins. begins; same = λ n ids class_of begins. refl }
 
-  module _ (d r : ℕ) (now : Rows) (f : Forest) (rising : Rising way parents shares why row depth before f₀ d r now f) where
-    abbrev Begins : ℕ → List ℕ → List ℕ → (ℕ → ℕ) → Type 0
-    Begins n ids depths class_of = Climbs way (tree_with n ids parents depths shares) class_of before row depth f₀
+  module _ (Filed : Filing) (d r : ℕ) (now : Rows) (rising : Rising Begun arrays why row depth before Filed d r now) where
+    abbrev Begins : ℕ → List ℕ → (ℕ → ℕ) → Type 0
+    Begins n ids class_of = Climbs Begun (tree_in n ids arrays) class_of before row depth
 
-    abbrev Ends : ℕ → List ℕ → List ℕ → (ℕ → ℕ) → Forest → Type 0
-    Ends n ids depths class_of g =
-        Settles way (tree_with n ids parents depths shares) class_of (up depth (tree_with n ids parents depths shares) why row before) now g
+    abbrev Ends : ℕ → List ℕ → (ℕ → ℕ) → Filing → Type 0
+    Ends n ids class_of Ended = Settles Ended (tree_in n ids arrays) class_of (up depth (tree_in n ids arrays) why row before) now
 
     -- the root has nobody above it
-    pub rising_done : d ≡ 0 → (n : ℕ) (ids depths : List ℕ) (class_of : ℕ → ℕ) → Begins n ids depths class_of → Ends n ids depths class_of f
-    rising_done none n ids depths class_of begins =
-        let tree = tree_with n ids parents depths shares in
-        let here = rising.climbs n ids depths class_of begins in
+    pub rising_done : d ≡ 0 → (n : ℕ) (ids : List ℕ) (class_of : ℕ → ℕ) → Begins n ids class_of → Ends n ids class_of Filed
+    rising_done none n ids class_of begins =
+        let tree = tree_in n ids arrays in
+        let here = rising.climbs n ids class_of begins in
         record {
-          rows_are = sym (up_done tree why r now d none) ∙ rising.same n ids depths class_of begins;
-          filed = subst (λ (i : ℕ). Filed way tree class_of now i f) (at_root tree here.sound r here.inside (here.deep ∙ none)) here.filed;
+          rows_are = sym (up_done tree why r now d none) ∙ rising.same n ids class_of begins;
+          filed = subst (λ (i : ℕ). Filed tree class_of now i) (at_root tree here.sound r here.inside (here.deep ∙ none)) here.filed;
         }
 
     -- there is a parent p, and row r is filed with those that wait there
     module _
-        (some : 0 < d) (p : ℕ) (is : p ≡ get_or parents r 0) (g : Forest)
-        (files : (tree : Tree) (class_of : ℕ → ℕ) → Sound tree → Kid tree p r → Filed way tree class_of now r f → Filed way tree class_of now 0 g) where
-      has_is : {b : Bool} → has_head_of now.heads p ≡ b → has_head now (get_or parents r 0) ≡ b
-      has_is has = rw (← is) (head_part now p ∙ has)
+        (some : 0 < d) (Next : Filing)
+        (files :
+        (tree : Tree) (class_of : ℕ → ℕ) → Sound tree → Kid tree (get_or arrays.parents r 0) r
+        → Filed tree class_of now r → Next tree class_of now 0) where
+      abbrev p : ℕ
+      p = get_or arrays.parents r 0
 
-      module _ (n : ℕ) (ids depths : List ℕ) (class_of : ℕ → ℕ) (begins : Begins n ids depths class_of) where
+      module _ (n : ℕ) (ids : List ℕ) (class_of : ℕ → ℕ) (begins : Begins n ids class_of) where
         abbrev tree : Tree
-        tree = tree_with n ids parents depths shares
+        tree = tree_in n ids arrays
 
-        here : Climbs way tree class_of now r d f
-        here = rising.climbs n ids depths class_of begins
+        here : Climbs Filed tree class_of now r d
+        here = rising.climbs n ids class_of begins
 
         kid : Kid tree p r
-        kid = rw is (lower_kid tree here.sound (d - 1) r here.inside (omega (arith, here.deep)))
+        kid = lower_kid tree here.sound (d - 1) r here.inside (omega (arith, here.deep))
 
-        filed : Filed way tree class_of now 0 g
+        filed : Next tree class_of now 0
         filed = files tree class_of here.sound kid here.filed
 
       -- it has a head
       pub rising_stops :
-          has_head_of now.heads p ≡ true → (n : ℕ) (ids depths : List ℕ) (class_of : ℕ → ℕ) → Begins n ids depths class_of → Ends n ids depths class_of g
-      rising_stops has n ids depths class_of begins =
+          has_head now p ≡ true → (n : ℕ) (ids : List ℕ) (class_of : ℕ → ℕ) → Begins n ids class_of → Ends n ids class_of Next
+      rising_stops has n ids class_of begins =
           record {
-            rows_are = sym (up_stops (tree_with n ids parents depths shares) why r now d some (has_is has)) ∙ rising.same n ids depths class_of begins;
-            filed = filed n ids depths class_of begins;
+            rows_are = sym (up_stops (tree_in n ids arrays) why r now d some has) ∙ rising.same n ids class_of begins;
+            filed = filed n ids class_of begins;
           }
 
       -- or it has none, and chooses
-      module _ (has : has_head_of now.heads p ≡ false) where
+      module _ (has : has_head now p ≡ false) where
         pub rising_chooses :
-            (n : ℕ) (ids depths : List ℕ) (class_of : ℕ → ℕ) → Begins n ids depths class_of
-            → Chooses way (tree_with n ids parents depths shares) class_of now p g
-        rising_chooses n ids depths class_of begins =
-            let here_now = here n ids depths class_of begins in
+            (n : ℕ) (ids : List ℕ) (class_of : ℕ → ℕ) → Begins n ids class_of → Chooses Next (tree_in n ids arrays) class_of now p
+        rising_chooses n ids class_of begins =
+            let here_now = here n ids class_of begins in
             record {
               sound = here_now.sound;
-              inner = parent_is_inner (tree_with n ids parents depths shares) here_now.sound p r (kid n ids depths class_of begins);
-              none = has_false now p (head_part now p ∙ has);
-              filed = filed n ids depths class_of begins;
+              inner = parent_is_inner (tree_in n ids arrays) here_now.sound p r (kid n ids class_of begins);
+              none = has_false now p has;
+              filed = filed n ids class_of begins;
             }
 
         pub rising_goes :
-            (next : Rows) (h : Forest)
-            → ((n : ℕ) (ids depths : List ℕ) (class_of : ℕ → ℕ) → Chooses way (tree_with n ids parents depths shares) class_of now p g
-            → Chosen way (tree_with n ids parents depths shares) class_of why p now next h)
-            → Rising way parents shares why row depth before f₀ (d - 1) p next h
-        rising_goes next h chosen =
+            (next : Rows) (Taken : Filing)
+            → ((n : ℕ) (ids : List ℕ) (class_of : ℕ → ℕ) → Chooses Next (tree_in n ids arrays) class_of now p
+            → Chosen Taken (tree_in n ids arrays) class_of why p now next)
+            → Rising Begun arrays why row depth before Taken (d - 1) p next
+        rising_goes next Taken chosen =
             record {
-              climbs = λ n ids depths class_of begins.
-                  let tree = tree_with n ids parents depths shares in
-                  let here_now = here n ids depths class_of begins in
-                  let below = kid n ids depths class_of begins in
+              climbs = λ n ids class_of begins.
+                  let tree = tree_in n ids arrays in
+                  let here_now = here n ids class_of begins in
+                  let below = kid n ids class_of begins in
                   record {
                     sound = here_now.sound;
                     inside = (parent_is_inner tree here_now.sound p r below).inside;
                     deep = let deeper = kid_deeper tree here_now.sound p r below in omega (arith, here_now.deep);
-                    filed = (chosen n ids depths class_of (rising_chooses n ids depths class_of begins)).filed;
+                    filed = (chosen n ids class_of (rising_chooses n ids class_of begins)).filed;
                   };
-              same = λ n ids depths class_of begins.
-                  let tree = tree_with n ids parents depths shares in
+              same = λ n ids class_of begins.
+                  let tree = tree_in n ids arrays in
                   rw (
-                    (chosen n ids depths class_of (rising_chooses n ids depths class_of begins)).rows_are,
-                    is,
-                    ← up_goes tree why r now d some (has_is has),
-                  ) (rising.same n ids depths class_of begins);
+                    (chosen n ids class_of (rising_chooses n ids class_of begins)).rows_are,
+                    ← up_goes tree why r now d some has,
+                  ) (rising.same n ids class_of begins);
             }

@@ -5,22 +5,20 @@ use Rattle.input.specs.Classes.{Tree, depth}
 use Rattle.rules.specs.Box.{Rows}
 use Rattle.rules.specs.Steps.{new_head}
 use Rattle.laws.specs.Sound.{Sound}
-use Rattle.heaps.specs.Heaps.{Forest}
 use Rattle.arrays.specs.Arrays.{has_head_of}
-use Rattle.choosing.specs.declared.Way.{Way}
-use Rattle.choosing.specs.Filed.{Filed}
+use Rattle.choosing.specs.Filed.{Filing}
 
 -- the way up begins at row r, which is at depth d and aside
-pub record Climbs (way : Way) (tree : Tree) (class_of : ℕ → ℕ) (a : Rows) (r d : ℕ) (f : Forest) : Type 0 where
+pub record Climbs (Filed : Filing) (tree : Tree) (class_of : ℕ → ℕ) (a : Rows) (r d : ℕ) : Type 0 where
   pub sound : Sound tree
   pub inside : r < tree.rows
   pub deep : depth tree r ≡ d
-  pub filed : Filed way tree class_of a r f
+  pub filed : Filed tree class_of a r
 
 -- the rows are those that the rules say, and nobody is aside
-pub record Settles (way : Way) (tree : Tree) (class_of : ℕ → ℕ) (is now : Rows) (f : Forest) : Type 0 where
+pub record Settles (Filed : Filing) (tree : Tree) (class_of : ℕ → ℕ) (is now : Rows) : Type 0 where
   pub rows_are : now ≡ is
-  pub filed : Filed way tree class_of now 0 f
+  pub filed : Filed tree class_of now 0
 
 -- ── a packet that arrives, before the way up ──
 

@@ -1,19 +1,14 @@
 -- `hierarchy::up` meets its contract: a choice at each row that is left is within the tags' leeway, and what remains to be done
 -- is all that was to be done at first.
 -- Assumes nothing.
-use Prim.Native.Nat.{◌*◌}
-use Rattle.heaps.specs.Heaps.{forest}
-use Rattle.arrays.specs.Arrays.{rows_of}
+use Prim.Native.Nat.{◌*◌, ◌-◌}
+use Rattle.arrays.specs.Arrays.{rows_in}
 use Rattle.choosing.specs.Sizes.{Leeway, most_choice}
 use Rattle.hierarchy.proofs.Climb.{Rising}
 use Rattle.hierarchy.proofs.up.Given as goal
 
-abbrev pub invariant-loop-d : goal.invariant-loop-d
-invariant-loop-d l =
-    Leeway (l.d * most_choice) (rows_of l.starts l.finishes l.virtuals l.heads l.head_lengths l.head_classes)
-    × Rising l.way l.parents l.shares l.why l.row l.depth (rows_of l.initial.starts l.initial.finishes l.initial.virtuals l.initial.heads l.initial.head_lengths l.initial.head_classes) (forest l.initial.roots l.initial.left l.initial.right) l.d l.r
-    (rows_of l.starts l.finishes l.virtuals l.heads l.head_lengths l.head_classes) (forest l.roots l.left l.right)
-
-abbrev pub decreases-loop-d : goal.decreases-loop-d
-decreases-loop-d l =
-    l.d
+abbrev pub invariant-loop-level : goal.invariant-loop-level
+invariant-loop-level g l =
+    Leeway ((l.depth - l._level) * most_choice) (rows_in l.rows)
+    × Rising (g.F.Finding.filed l.initial.finding) l.tree l.why l.row l.depth (rows_in l.initial.rows)
+    (g.F.Finding.filed l.finding) (l.depth - l._level) l.r (rows_in l.rows)
