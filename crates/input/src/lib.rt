@@ -74,7 +74,7 @@ pub enum Event {
     Finish,
 }
 
-// What the two words of an event mean.
+// What the two words of an event mean. A function with their names, since a `From` of a pair would not say which is which.
 pub fn decode(class: u32, length: u32) -> Event
     ensures { Decodes class length result }
 {
@@ -91,7 +91,8 @@ pub fn on_air(identifier: u32) -> usize
     wide(identifier) % ON_AIR_IDENTIFIERS
 }
 
-// Why an input is refused, and where. Number 0 refuses nothing.
+// Why an input is refused, and where: the error of whatever checks one. The rules, C's answer and the sentences go by the number. In the
+// definitions (`Refusals: nothing`) number 0 refuses nothing; code never makes that one.
 #[derive(Clone, Copy)]
 pub struct Refusal {
     pub number: u32,
@@ -99,7 +100,8 @@ pub struct Refusal {
     pub second: u32,
 }
 
-// What a run answers: number 0 where it is done, else the refusal; and how many packets went on the line.
+// A run's answer as four words, as the definitions (`Outcome`), C and the printed answer have it: number 0 where it is done, else the
+// refusal; and how many packets went on the line. In code it is a `Result`.
 #[derive(Clone, Copy)]
 pub struct Answer {
     pub number: u32,

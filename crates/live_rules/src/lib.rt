@@ -53,7 +53,8 @@ pub const STATE_WORDS: usize = 6912;
 
 // ── what a call answers ──
 
-// Number 0 where the event is taken, else the refusal; how many packets went on the line, none or one, and the name of that one, else 0.
+// An answer as five words, as the definitions (`Outcomes`) and the printed answer have it: number 0 where the event is taken, else the refusal;
+// how many packets went on the line, none or one, and the name of that one, else 0. In code it is a `Result`.
 #[derive(Clone, Copy)]
 pub struct LiveAnswer {
     pub number: u32,

@@ -8,7 +8,8 @@ pub enum Why {
     Arrived,
 }
 
-// The child that a row takes, 0 where none has a head, and the row's virtual time, raised.
+// The child that a row takes, and the row's virtual time, raised. Child 0 where none has a head, as the definitions have it (`Steps: pick`):
+// the rows' arrays of heads, and the lent words, keep that 0.
 #[derive(Clone, Copy)]
 pub struct Choice {
     pub child: u8,

@@ -3,7 +3,7 @@
 
 ghost use Rattle.std.specs.Prelude.{◌≡◌, ◌<◌, ◌^◌, max, get_or};
 
-// A number as an index.
+// A number as an index. Beside what `as` does it says how large that is, which callers' proofs cite; so does the next.
 pub fn wide(x: u32) -> usize
     ensures { (result ≡ x) × (result < 2 ^ 32) }
 {
