@@ -7,6 +7,6 @@ use Rattle.timetable.proofs.Lines.{moments_parts}
 use Rattle.timetable.proofs.put_moments.Goals as goal
 
 pub returns : goal.returns
-returns c =
-    then _ _ _ c.put_field-used.ensures (then _ _ _ c.put_field-used-2.ensures (then _ _ _ c.put_number-used.ensures c.put_end.ensures))
+returns g c =
+    then _ _ _ c.put_field.ensures (then _ _ _ c.put_field-2.ensures (then _ _ _ c.put_number.ensures c.put_end.ensures))
     ∙ ap (with_text _) (moments_parts _ _ _)

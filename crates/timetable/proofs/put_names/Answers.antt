@@ -7,6 +7,6 @@ use Rattle.timetable.proofs.Lines.{names_parts}
 use Rattle.timetable.proofs.put_names.Goals as goal
 
 pub returns : goal.returns
-returns c =
-    then _ _ _ c.put_then-used.ensures (then _ _ _ c.put_then-used-2.ensures (then _ _ _ c.put_then-used-3.ensures c.put_then.ensures))
+returns g c =
+    then _ _ _ c.put_then.ensures (then _ _ _ c.put_then-2.ensures (then _ _ _ c.put_then-3.ensures c.put_then-4.ensures))
     ∙ ap (with_text _) (names_parts _ _ _ _)
