@@ -20,6 +20,7 @@ pub fn count_records(classes: &[u32], records: &mut [u32])
 }
 
 // How many packets have arrived after an event for this class.
+#[tactic(auto, using(crate::proofs::Arrivals::none_arrives, crate::proofs::Arrivals::one_arrives))]
 fn arrived_after(arrived: u32, class: u32) -> u32
     requires { suc arrived < 2 ^ 32 }
     ensures counted { (length : ℕ) → result ≡ arrived + one_arrival (decode class length) }

@@ -87,6 +87,7 @@ impl<'a> Packets<'a> {
 }
 
 // Four words, a comma after each.
+#[tactic(auto, using(output::proofs::Pages::then, crate::proofs::Lines::names_parts))]
 fn put_names<const N: usize>(page: &mut Page<N>, place: u32, record: u32, class: u32, length: u32)
     ensures { Puts (decimal place ++ comma ∷ decimal «record» ++ comma ∷ decimal class ++ comma ∷ decimal length ++ comma ∷ [])
         page.old page.new }
@@ -98,6 +99,7 @@ fn put_names<const N: usize>(page: &mut Page<N>, place: u32, record: u32, class:
 }
 
 // Three moments, and the end of their line.
+#[tactic(auto, using(output::proofs::Pages::then, crate::proofs::Lines::moments_parts))]
 fn put_moments<const N: usize>(page: &mut Page<N>, arrived: u64, sent: u64, finished: u64)
     ensures { Puts (decimal arrived ++ comma ∷ decimal sent ++ comma ∷ decimal finished ++ line_end)
         page.old page.new }
