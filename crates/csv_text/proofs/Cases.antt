@@ -19,13 +19,12 @@ use Rattle.laws.proofs.Tree.Trees.{given_none}
 use Rattle.tables.specs.declared.Reading.{Reading}
 use Rattle.tables.specs.Answers.{refusal_of, accepting, refusing, answer, reading}
 use Rattle.tables.proofs.Answering.{answer_accepts, answer_refuses}
-use Rattle.tables.proofs.Firsts.{Plain, or_else_first, or_else_second, table_plain}
-use Rattle.forms.specs.declared.Rows.{Rows}
+use Rattle.tables.proofs.Firsts.{Plain, or_else_first, or_else_second, given_plain, or_else_plain, last_plain, table_plain}
 use Rattle.forms.specs.declared.Scan.{Scan}
 use Rattle.forms.specs.Faults.{read_text, scan_refused, text_refused, table_in}
 use Rattle.csv_text.specs.Kept.{Room, first_rows, unfit}
 use Rattle.forms.proofs.AnyBytes.{rows_lines}
-use Rattle.forms.specs.Outcomes.{rows_left_of, rows_found, fault_found, rows_kept, rows_read, text_fault, length_refused, table_over, fits, count_refused}
+use Rattle.forms.specs.Outcomes.{Rows, rows_left_of, rows_found, fault_found, rows_kept, rows_read, text_fault, length_refused, table_over, fits, count_refused}
 
 -- ── the fault of a text ──
 
@@ -97,6 +96,13 @@ module _ (read : Rows) (words : Table) (room : Bool) where
   pub unfit_fault : read.fault.number ≢ 0 → unfit read words room ≡ read.fault
   unfolding unfit first
   unfit_fault some = or_else_first _ _ some
+
+  -- with number 0, nothing
+  pub unfit_plain : Plain read.fault → Plain (unfit read words room)
+  unfolding unfit first count_refused
+  unfit_plain plain =
+      or_else_plain _ _ plain (or_else_plain _ _ (given_plain _ 1 0 (omega arith))
+      (or_else_plain _ _ (given_plain _ 3 0 (omega arith)) (last_plain _ (table_plain _))))
 
   module _ (fine : read.fault.number ≡ 0) where
     pub unfit_count : (count_refused read.rows).number ≢ 0 → unfit read words room ≡ count_refused read.rows

@@ -38,7 +38,7 @@ fn write_answer(answer: &mut [u8], r: Answer)
     ensures { answer.new ≡ answer_bytes r }
 {
     let words = [r.number, r.place, r.second, r.count];
-    octets::write_words(&words, 4, answer);
+    octets::write_words(&words, answer);
 }
 
 // The run on the words of these bytes, which the arrays have room for.
@@ -127,9 +127,9 @@ fn run_written(
         return r.number;
     }
     let rows = identifiers.len() / 4;
-    octets::write_words(&order_words, words::wide(r.count), order);
-    octets::write_longs(&report_words, REPORT_WORDS * rows, report);
-    octets::write_signed(&lag_words, rows, lags);
+    octets::write_words(&order_words[..words::wide(r.count)], order);
+    octets::write_words(&report_words[..REPORT_WORDS * rows], report);
+    octets::write_words(&lag_words[..rows], lags);
     octets::clear(working, classes.len());
     r.number
 }

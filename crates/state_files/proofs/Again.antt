@@ -8,7 +8,7 @@ use lib.ListN.{length, replicate, length-replicate}
 use lib.Seq.{drop-length}
 use Rattle.rules.specs.Outcome.{over}
 use Rattle.live_rules.specs.Layout.{state_words}
-use Rattle.octets.specs.Octets.{bytes_of, words_of, All-below}
+use Rattle.octets.specs.Octets.{bytes_of, words_of, AllBelow}
 use Rattle.octets.proofs.Laws.{read_written}
 use Rattle.state_files.specs.declared.Reading.TheVariants.{Whole, Otherwise, Failed}
 use Rattle.state_files.specs.Loaded.{words_read, LoadsState}
@@ -33,6 +33,6 @@ module _ (before : List ℕ) where
 
 -- into as many words
 pub again :
-    (state before : List ℕ) → length before ≡ length state → All-below (256 ^ 8) state → words_read (bytes_of 8 state) before Whole ≡ state
+    (state before : List ℕ) → length before ≡ length state → AllBelow (256 ^ 8) state → words_read (bytes_of 8 state) before Whole ≡ state
 unfolding words_read over
 again state before size small = rw (read_written 8 state (omega arith) small, ← size, drop-length before) (append-nil state)

@@ -20,6 +20,6 @@ pub fn load_state(rt: &(impl Env + Files + Input), argument: usize, state: &mut 
     if held.size != STATE_BYTES {
         return Reading::Otherwise;
     }
-    octets::read_longs(&bytes, state);
+    octets::read_words(&bytes, state);
     Reading::Whole
 }

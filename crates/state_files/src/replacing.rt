@@ -21,7 +21,7 @@ pub fn store_state(rt: &(impl Env + Files), place: usize, state: &[u64]) -> bool
     requires { state_words ≤ length state.now }
 {
     let mut bytes = [0u8; STATE_BYTES];
-    octets::write_longs(state, STATE_WORDS, &mut bytes);
+    octets::write_words(&state[..STATE_WORDS], &mut bytes);
     let mut name = [0u8; 131072];
     let length = argument(rt, place, &mut name);
     store_named(rt, &name[..length], &bytes)

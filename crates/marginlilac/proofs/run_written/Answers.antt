@@ -1,10 +1,11 @@
 -- `marginlilac::run_written` meets its contract: what the run left in the arrays, written over the lent bytes.
 -- Assumes nothing.
 use Prim.Native.Nat.{ℕ, ◌*◌, ◌/◌, ◌≤◌}
-use mathlib.Core.Path.{◌≡◌}
+use mathlib.Core.Path.{◌≡◌, sym}
 use mathlib.Core.Logic.{◌≢◌}
 use native.Mathlib.Omega.{arith}
-use lib.ListN.{length, length-replicate}
+use lib.ListN.{length, length-take, length-replicate}
+use lib.Seq.{length-take-le}
 use lib.IntN.{pos}
 use Rattle.input.specs.declared.Answer.{Answer}
 use Rattle.input.specs.Limits.{most_rows, most_events, report_words}
@@ -30,6 +31,60 @@ returns-then-r-ne0 c =
     → left_bytes r.number lent.order lent.report lent.lags lent.working (answer_bytes r) ≡ bytes_left (outcome (words_lent lent)) = λ some. run_refused lent c.requires r _ _ _ _ c.run_read-r.ensures some in
     rw c.write_answer.ensures (refused_left c.if-r-ne0.true)
 
+-- ── as many words as are written are there ──
+
+pub slice_bounds-order_words-end : goal.slice_bounds-order_words-end
+unfolding words_lent
+slice_bounds-order_words-end c =
+    let lent : LentBytes = lent_bytes c.args.identifiers.now c.args.parents.now c.args.shares.now c.args.classes.now c.args.lengths.now c.args.order.now
+    c.args.report.now c.args.lags.now c.args.working.now c.args.answer.now in
+    let accepted = c.if-r-ne0.false in
+    let done : Fitting lent c.run_read-r.result.count = run_fits lent c.requires c.run_read-r.result _ _ _ _ c.run_read-r.ensures accepted in
+    let size = c.run_read-r.auto.order in
+    omega (arith, done.order_few, c.wide.ensures.0, length-replicate {A = ℕ} most_events 0)
+
+pub slice_bounds-write_words-end : goal.slice_bounds-write_words-end
+unfolding words_lent
+slice_bounds-write_words-end c =
+    let lent : LentBytes = lent_bytes c.args.identifiers.now c.args.parents.now c.args.shares.now c.args.classes.now c.args.lengths.now c.args.order.now
+    c.args.report.now c.args.lags.now c.args.working.now c.args.answer.now in
+    let no_refusal = c.if-r-ne0.false in
+    let done : Fitting lent c.run_read-r.result.count = run_fits lent c.requires c.run_read-r.result _ _ _ _ c.run_read-r.ensures no_refusal in
+    let size = c.run_read-r.auto.order in
+    sym (length-take-le _ c.run_read-r.new.order (omega (arith, done.order_few, c.wide.ensures.0, length-replicate {A = ℕ} most_events 0)))
+
+pub slice_bounds-report_words-end : goal.slice_bounds-report_words-end
+slice_bounds-report_words-end c =
+    let lent : LentBytes = lent_bytes c.args.identifiers.now c.args.parents.now c.args.shares.now c.args.classes.now c.args.lengths.now c.args.order.now
+    c.args.report.now c.args.lags.now c.args.working.now c.args.answer.now in
+    let few = (held lent c.requires).few_rows in
+    let size = c.run_read-r.auto.report in
+    omega (arith, length-replicate {A = ℕ} (report_words * most_rows) 0)
+
+pub slice_bounds-write_words-end-2 : goal.slice_bounds-write_words-end-2
+slice_bounds-write_words-end-2 c =
+    let lent : LentBytes = lent_bytes c.args.identifiers.now c.args.parents.now c.args.shares.now c.args.classes.now c.args.lengths.now c.args.order.now
+    c.args.report.now c.args.lags.now c.args.working.now c.args.answer.now in
+    let few = (held lent c.requires).few_rows in
+    let size = c.run_read-r.auto.report in
+    sym (length-take-le _ c.run_read-r.new.report (omega (arith, length-replicate {A = ℕ} (report_words * most_rows) 0)))
+
+pub slice_bounds-lag_words-end : goal.slice_bounds-lag_words-end
+slice_bounds-lag_words-end c =
+    let lent : LentBytes = lent_bytes c.args.identifiers.now c.args.parents.now c.args.shares.now c.args.classes.now c.args.lengths.now c.args.order.now
+    c.args.report.now c.args.lags.now c.args.working.now c.args.answer.now in
+    let few = (held lent c.requires).few_rows in
+    let size = c.run_read-r.auto.lags in
+    omega (arith, length-replicate most_rows (pos 0))
+
+pub slice_bounds-write_words-end-3 : goal.slice_bounds-write_words-end-3
+slice_bounds-write_words-end-3 c =
+    let lent : LentBytes = lent_bytes c.args.identifiers.now c.args.parents.now c.args.shares.now c.args.classes.now c.args.lengths.now c.args.order.now
+    c.args.report.now c.args.lags.now c.args.working.now c.args.answer.now in
+    let few = (held lent c.requires).few_rows in
+    let size = c.run_read-r.auto.lags in
+    sym (length-take-le _ c.run_read-r.new.lags (omega (arith, length-replicate most_rows (pos 0))))
+
 pub write_words-requires : goal.write_words-requires
 unfolding words_lent
 write_words-requires c =
@@ -37,32 +92,26 @@ write_words-requires c =
     c.args.report.now c.args.lags.now c.args.working.now c.args.answer.now in
     let r : Answer = c.run_read-r.result in
     let fits : (none : r.number ≡ 0) → Fitting lent r.count = λ none. run_fits lent c.requires r _ _ _ _ c.run_read-r.ensures none in
-    let done : Fitting lent r.count = fits c.if-r-ne0.false in let room = done in let count = c.wide.ensures.0 in let size = c.run_read-r.auto.order in record { words_enough = omega (arith, length-replicate {A = ℕ} most_events 0); bytes_room = omega arith }
+    let done : Fitting lent r.count = fits c.if-r-ne0.false in let room = done in let count = c.wide.ensures.0 in simp length-take (omega (arith, room.order_room, count))
 
-pub overflow_mul-rows : goal.overflow_mul-rows
-overflow_mul-rows c =
-    let lent : LentBytes = lent_bytes c.args.identifiers.now c.args.parents.now c.args.shares.now c.args.classes.now c.args.lengths.now c.args.order.now
-    c.args.report.now c.args.lags.now c.args.working.now c.args.answer.now in
-    let few_rows : length c.args.identifiers.now / 4 ≤ most_rows = (held lent c.requires).few_rows in let few = few_rows in record { fits = omega arith }
-
-pub write_longs-requires : goal.write_longs-requires
+pub write_words-requires-2 : goal.write_words-requires-2
 unfolding words_lent
-write_longs-requires c =
+write_words-requires-2 c =
     let lent : LentBytes = lent_bytes c.args.identifiers.now c.args.parents.now c.args.shares.now c.args.classes.now c.args.lengths.now c.args.order.now
     c.args.report.now c.args.lags.now c.args.working.now c.args.answer.now in
     let r : Answer = c.run_read-r.result in
     let fits : (none : r.number ≡ 0) → Fitting lent r.count = λ none. run_fits lent c.requires r _ _ _ _ c.run_read-r.ensures none in
     let room : Fitting lent r.count = fits c.if-r-ne0.false in
-    let few_rows : length c.args.identifiers.now / 4 ≤ most_rows = (held lent c.requires).few_rows in let few = few_rows in let size = c.run_read-r.auto.report in record { words_enough = omega (arith, length-replicate {A = ℕ} (report_words * most_rows) 0); bytes_room = omega arith }
+    let few_rows : length c.args.identifiers.now / 4 ≤ most_rows = (held lent c.requires).few_rows in simp length-take (omega (arith, room.report_room))
 
-pub write_signed-requires : goal.write_signed-requires
+pub write_words-requires-3 : goal.write_words-requires-3
 unfolding words_lent
-write_signed-requires c =
+write_words-requires-3 c =
     let lent : LentBytes = lent_bytes c.args.identifiers.now c.args.parents.now c.args.shares.now c.args.classes.now c.args.lengths.now c.args.order.now
     c.args.report.now c.args.lags.now c.args.working.now c.args.answer.now in
     let r : Answer = c.run_read-r.result in
     let fits : (none : r.number ≡ 0) → Fitting lent r.count = λ none. run_fits lent c.requires r _ _ _ _ c.run_read-r.ensures none in
-    let done : Fitting lent r.count = fits c.if-r-ne0.false in let few_rows : length c.args.identifiers.now / 4 ≤ most_rows = (held lent c.requires).few_rows in let few = few_rows in let room = done in let size = c.run_read-r.auto.lags in record { words_enough = omega (arith, length-replicate most_rows (pos 0)); bytes_room = omega arith }
+    let done : Fitting lent r.count = fits c.if-r-ne0.false in let few_rows : length c.args.identifiers.now / 4 ≤ most_rows = (held lent c.requires).few_rows in simp length-take (omega (arith, done.lags_room))
 
 pub clear-requires : goal.clear-requires
 unfolding words_lent
@@ -81,4 +130,4 @@ returns c =
     let r : Answer = c.run_read-r.result in
     rw c.write_answer.ensures
     (run_done lent c.requires r _ _ _ _ c.run_read-r.ensures c.if-r-ne0.false _ _ _ _
-    (rw c.wide.ensures.0 at c.write_words.ensures) c.write_longs.ensures c.write_signed.ensures c.clear.ensures)
+    (rw c.wide.ensures.0 at c.write_words.ensures) c.write_words-2.ensures c.write_words-3.ensures c.clear.ensures)

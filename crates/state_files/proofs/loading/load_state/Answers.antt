@@ -11,4 +11,4 @@ pub returns-then-held-ne-STATE_BYTES : goal.returns-then-held-ne-STATE_BYTES
 returns-then-held-ne-STATE_BYTES g c = otherwise _
 
 pub returns : goal.returns
-returns g c = whole _ _ _ (search rules) c.read_longs.ensures
+returns g c = whole _ _ _ (search rules) c.read_words.ensures
