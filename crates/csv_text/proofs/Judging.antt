@@ -5,7 +5,7 @@ use mathlib.Core.Logic.{◌≢◌}
 use Rattle.std.specs.Prelude.{Result, Ok, Err}
 use Rattle.std.specs.Result.{IsErrAnd}
 use Rattle.input.specs.declared.Refusal.{Refusal}
-use Rattle.csv_text.specs.Kept.{Refuses}
+use Rattle.tables.specs.Judged.{Refuses}
 
 pub err_is : {A : Type 0} (r : Result A Refusal) (e : Refusal) → IsErrAnd r (λ x. x ≡ e) → r ≡ Err e
 err_is (Ok x) e none = absurd none
@@ -14,7 +14,3 @@ err_is (Err x) e same = ap Err same
 -- what refuses has a number
 pub numbered : (refusal r : Refusal) → Refuses refusal r → r.number ≢ 0
 numbered refusal r refuses none = refuses.0 (ap (λ (x : Refusal). x.number) (sym refuses.1) ∙ none)
-
--- an error is what refuses
-pub errs : (refused r : Refusal) → r ≡ refused → r.number ≢ 0 → Refuses refused r
-errs refused r same some = (λ none. some (ap (λ (x : Refusal). x.number) same ∙ none), same)

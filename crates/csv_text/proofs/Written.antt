@@ -2,22 +2,21 @@
 -- Assumes nothing.
 use Prim.Native.Nat.{ℕ, ◌+◌, ◌*◌, ◌≤◌, ◌<◌}
 use mathlib.Core.Path.{◌≡◌, refl, ap, ◌∙◌}
-use mathlib.Core.Bool.{Bool, true, false, cond}
 use mathlib.Core.Logic.{◌≢◌}
 use mathlib.Core.List.{List, [], ◌∷◌}
 use mathlib.Mathlib.Data.Bool.Basic.{or-eq-false-eq-eq-false-and-eq-false as or-is-false}
 use native.Mathlib.Omega.{arith}
-use lib.Dec.{eqb, ltb}
+use lib.Dec.{ltb}
 use lib.IntN.{ℤ}
 use lib.ListN.{length, take, drop}
 use lib.Seq.{take_at}
 use borrow.Author.Tests.{ne_eqb, lt-ltb, le-ltb, ltb-false}
 use Rattle.input.specs.declared.Refusal.{Refusal}
 use Rattle.input.specs.Limits.{least_rows, most_rows}
-use Rattle.input.specs.Classes.{Table, Tree, tree_of}
+use Rattle.input.specs.Classes.{Table}
 use Rattle.input.specs.Refusals.{nothing, given, or_else, first, rows_refused, table_refused}
 use Rattle.rules.specs.Outcome.{over}
-use Rattle.tables.specs.Answers.{refusal_of, accepting, refusing, answer, reading}
+use Rattle.tables.specs.Answers.{refusal_of}
 use Rattle.tables.proofs.Firsts.{or_else_first, or_else_second, given_last, given_plain, or_else_plain, table_plain, first_append}
 use Rattle.tables.proofs.Answering.{sized}
 use Rattle.laws.proofs.Tree.Trees.{given_none, or_none}
@@ -113,16 +112,9 @@ module _ (table : Table) (lent : List ℕ) where
           )
           (left_done (table_text table) lent)
 
-reading_says : (one : Bool) (refusal : Refusal) (tree : Tree) → (cond one (accepting refusal tree) (refusing refusal)).refusal ≡ refusal
-unfolding accepting refusing
-reading_says true refusal tree = refl
-reading_says false refusal tree = refl
-
 -- what refuses a table as it is read, once its lengths are right
-pub table_said : (table : Table) → (rows_refused table).number ≡ 0 → (reading table).refusal ≡ table_refused table
-unfolding reading answer
-table_said table fits = rw (or_else_second (rows_refused table) (table_refused table) fits)
-    (reading_says (eqb (table_refused table).number 0) (table_refused table) (tree_of table))
+pub table_said : (table : Table) → (rows_refused table).number ≡ 0 → or_else (rows_refused table) (table_refused table) ≡ table_refused table
+table_said table fits = or_else_second (rows_refused table) (table_refused table) fits
 
 -- ── a report with its lags ──
 

@@ -1,5 +1,5 @@
 -- What reading a table asks of its parts: a row goes to its place as its line ends, and what refuses the rows that were read.
-use Rattle.std.specs.Prelude.{ℕ, ◌≡◌, ◌≢◌, ◌-◌, ◌≤◌, Bool, Result, Ok, Err, Option, Some, None, cond, not, List, [], ◌∷◌, length, set, take}
+use Rattle.std.specs.Prelude.{ℕ, ◌≡◌, ◌≢◌, ◌-◌, ◌≤◌, Bool, Option, Some, None, cond, not, List, [], ◌∷◌, length, set, take}
 use Rattle.input.specs.Classes.{Table}
 use Rattle.input.specs.declared.Refusal.{Refusal}
 use Rattle.input.specs.Refusals.{given, first, table_refused}
@@ -45,12 +45,3 @@ unfit read words room =
 abbrev pub Numbered : ℕ → Option ℕ → Type 0
 Numbered number None = number ≡ 0
 Numbered number (Some n) = (number ≢ 0) × (n ≡ number)
-
--- r is the refusal, which has a number
-abbrev pub Refuses : Refusal → Refusal → Type 0
-Refuses refusal r = (refusal.number ≢ 0) × (r ≡ refusal)
-
--- as a result
-abbrev pub Judged : {A : Type 0} → Refusal → A → Result A Refusal → Type 0
-Judged refusal found (Ok x) = (refusal.number ≡ 0) × (x ≡ found)
-Judged refusal found (Err r) = Refuses refusal r

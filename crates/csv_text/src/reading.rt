@@ -5,7 +5,8 @@ ghost use Rattle.rules.specs.Outcome.{over};
 ghost use Rattle.input.specs.Limits.{most_rows};
 ghost use Rattle.input.specs.Classes.{Table};
 ghost use Rattle.forms.specs.Outcomes.{RowsRead, TableRead, rows_left_of, table_left_of, answered, rows_said, rows_found, table_over, fits, count_refused};
-ghost use Rattle.csv_text.specs.Kept.{Copyable, Judged, first_rows, unfit};
+ghost use Rattle.csv_text.specs.Kept.{Copyable, first_rows, unfit};
+ghost use Rattle.tables.specs.Judged.{Judged};
 
 use crate::scans::{fill, rows_of, scan_refused, scan_text};
 use forms::Counted;
@@ -96,14 +97,10 @@ fn unfit(
     if !room {
         return Err(tables::refusal(3, 0, 0));
     }
-    let reading = tables::read_table(
-        &row_identifiers[..rows],
-        &row_parents[..rows],
-        &row_shares[..rows],
-    );
-    if reading.refusal.number != 0 {
-        return Err(reading.refusal);
-    }
+    let identifiers = &row_identifiers[..rows];
+    let parents = &row_parents[..rows];
+    let shares = &row_shares[..rows];
+    tables::read_table(identifiers, parents, shares)?;
     Ok(())
 }
 

@@ -3,7 +3,8 @@ ghost use Rattle.std.specs.Prelude.{◌≡◌, suc, ◌-◌, ◌<◌, ◌^◌, �
 ghost use Rattle.input.specs.Lent.{table_of};
 ghost use Rattle.forms.specs.Faults as faults;
 ghost use Rattle.forms.specs.Outcomes.{table_over};
-ghost use Rattle.csv_text.specs.Kept.{Room, Numbered, Judged, keeping};
+ghost use Rattle.csv_text.specs.Kept.{Room, Numbered, keeping};
+ghost use Rattle.tables.specs.Judged.{Judged};
 
 use crate::places::after;
 use forms::{Place, Scan};

@@ -4,7 +4,7 @@ ghost use Rattle.input.specs.Lent.{table_of};
 ghost use Rattle.input.specs.Refusals.{or_else};
 ghost use Rattle.forms.specs.Outcomes as outcomes;
 ghost use Rattle.forms.specs.Outcomes.{TableWritten, ReportWritten, answered, text_left_of};
-ghost use Rattle.csv_text.specs.Kept.{Judged};
+ghost use Rattle.tables.specs.Judged.{Judged};
 
 use crate::reading::{copy, count_refused};
 use input::{MOST_ROWS, REPORT_WORDS, Refusal};
@@ -27,20 +27,14 @@ pub fn write_table(
     ensures { TableWritten (table_of identifiers.now parents.now shares.now) text.old
         (text_left_of (answered result) text.new) }
 {
-    let counted = tables::rows_refused(identifiers.len(), parents.len(), shares.len());
-    if counted.number != 0 {
-        return Err(counted);
-    }
+    tables::rows_refused(identifiers.len(), parents.len(), shares.len())?;
     let mut page: Page<TABLE_BYTES> = Page::blank();
     put_table(&mut page, identifiers, parents, shares);
     let table = page.text();
     if text.len() < table.len() {
         return Err(tables::refusal(40, 0, 0));
     }
-    let reading = tables::read_table(identifiers, parents, shares);
-    if reading.refusal.number != 0 {
-        return Err(reading.refusal);
-    }
+    tables::read_table(identifiers, parents, shares)?;
     copy(table, text);
     Ok(table.len() as u32)
 }
