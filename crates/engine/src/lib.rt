@@ -1,7 +1,7 @@
 // The run, by either way to find the child that a row takes: refusals first, then event by event, then the results.
 #![tactic(auto)]
 
-ghost use Rattle.std.specs.Prelude.{◌*◌, ◌≤◌};
+ghost use Rattle.std.specs.Prelude.{◌≢◌, ◌*◌, ◌≤◌, IfErr};
 ghost use Rattle.std.proofs.Math.ListN as lists;
 ghost use Rattle.input.specs.Limits.{report_words};
 ghost use Rattle.input.specs.Lent.{events_of};
@@ -81,7 +81,8 @@ pub fn run<F: Finding>(
     lags: &mut [i64],
     working: &mut [u32],
 ) -> Result<u32, Refusal>
-    ensures { Ran
+    ensures numbered { IfErr result (λ refusal. refusal.number ≢ 0) }
+    ensures ran { Ran
         (lent_of identifiers.now parent_identifiers.now shares.now classes.now lengths.now
         order.old report.old lags.old working.old)
         (left_of (answer_of result) order.new report.new lags.new working.new) }

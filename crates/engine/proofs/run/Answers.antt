@@ -2,12 +2,17 @@
 -- Assumes nothing.
 use native.Mathlib.Omega.{arith}
 use Rattle.rules.specs.Outcome.{room_of}
+use Rattle.tables.proofs.Judging.{handed_number}
 use Rattle.engine.proofs.Ending.{refused_left, fit_is, sending_is, rows_for_is, roomy_is, served_left}
 use Rattle.engine.proofs.run.Goals as goal
 
 pub returns-in_err-check : goal.returns-in_err-check
 unfolding room_of
-returns-in_err-check g c = refused_left _ c.from_residual.result _ c.from_residual.ensures.1 c.in_err-check.ensures
+returns-in_err-check g c =
+    record {
+      numbered = handed_number _ c.from_residual.result _ c.from_residual.ensures.1 c.in_err-check.ensures;
+      ran = refused_left _ c.from_residual.result _ c.from_residual.ensures.1 c.in_err-check.ensures;
+    }
 
 pub serve-sent-requires : goal.serve-sent-requires
 serve-sent-requires g c =
@@ -32,4 +37,4 @@ pub returns : goal.returns
 unfolding room_of
 returns g c =
     let (passed, is) = c.in_ok-check.ensures in
-    served_left _ passed is c.serve-sent.ensures c.clear.ensures
+    record { numbered = tt; ran = served_left _ passed is c.serve-sent.ensures c.clear.ensures }
