@@ -1,23 +1,19 @@
 -- Where the list begins and ends: before the first event, at one that is refused, and after the last.
 -- Assumes nothing.
-use Prim.Native.Nat.{ℕ, zero, suc, ◌+◌, ◌*◌, ◌^◌, ◌≤◌, ◌<◌}
+use Prim.Native.Nat.{ℕ, zero, suc, ◌*◌, ◌≤◌, ◌<◌}
 use mathlib.Core.Path.{◌≡◌, refl, sym, ◌∙◌}
-use mathlib.Core.Logic.{◌≢◌}
 use mathlib.Core.List.{List}
 use native.Mathlib.Omega.{arith}
-use lib.Dec.{eqb}
 use lib.ListN.{replicate, take}
 use borrow.Author.Tests.{eq-eqb}
 use Rattle.input.specs.declared.Refusal.{Refusal}
 use Rattle.input.specs.Limits.{most_rows, most_events}
 use Rattle.input.specs.Classes.{Tree}
 use Rattle.input.specs.EventRows.{no_rows}
-use Rattle.input.specs.Events.{Events, length_word, event}
 use Rattle.input.specs.Refusals.{nothing, or_else, first_below}
 use Rattle.rules.specs.Box.{fresh}
-use Rattle.rules.specs.Steps.{after}
 use Rattle.rules.specs.Outcome.{over}
-use Rattle.rules.specs.Refused.{idle, event_refused}
+use Rattle.rules.specs.Refused.{event_refused}
 use Rattle.laws.specs.Named.{class_for}
 use Rattle.laws.proofs.Event.Outset.{replicate_at}
 use Rattle.rules.specs.Box.{Rows}

@@ -1,24 +1,21 @@
 -- The list grows by one event: what the arrays are by the shorter list they are by the longer one, and an event that is not refused goes on.
 -- Assumes nothing.
-use Prim.Native.Nat.{ℕ, zero, suc, ◌+◌, ◌*◌, ◌^◌, ◌≤◌, ◌<◌}
+use Prim.Native.Nat.{ℕ, suc, ◌≤◌, ◌<◌}
 use mathlib.Core.Path.{◌≡◌, refl, sym, ap, ◌∙◌}
-use mathlib.Core.Bool.{Bool, true, false, cond, not, ◌||◌}
-use mathlib.Core.List.{List, [], ◌∷◌, ◌++◌}
-use native.Mathlib.Decide.{dec_lt}
+use mathlib.Core.Bool.{Bool, true, false, not}
+use mathlib.Core.List.{List, [], ◌∷◌}
 use native.Mathlib.Omega.{arith}
 use lib.Dec.{eqb}
-use lib.ListN.{length, get_or, set, take, drop}
-use lib.Seq.{take-suc-set, get_or-drop}
-use Rattle.input.specs.Limits.{most_events, most_bytes}
+use lib.ListN.{length, get_or, set, take}
+use lib.Seq.{take-suc-set}
+use Rattle.input.specs.Limits.{most_events}
 use Rattle.input.specs.Classes.{Tree, row_of}
-use Rattle.input.specs.Events.{Events, count, class_word, length_word, decode, event}
-use Rattle.input.specs.EventRows.{row_for}
+use Rattle.input.specs.Events.{Events}
 use Rattle.input.specs.Lent.{events_of}
-use Rattle.rules.specs.Box.{Packet, Rows, Box, head, head_length, has_head}
+use Rattle.rules.specs.Box.{Packet, Rows, head, has_head}
 use Rattle.rules.specs.Steps.{after}
 use Rattle.rules.specs.Refused.{idle, event_refused}
-use Rattle.laws.specs.Sound.{Sound}
-use Rattle.laws.specs.Kept.{InLine, Kept}
+use Rattle.laws.specs.Kept.{InLine}
 use Rattle.laws.specs.History.{Accepted}
 use Rattle.laws.specs.Named.{class_for}
 use Rattle.laws.proofs.Run.Sizes.{small_kept}
@@ -27,8 +24,8 @@ use Rattle.arrays.specs.declared.CountArrays.{CountArrays}
 use Rattle.choosing.specs.Filed.{Filing, Keeps}
 use Rattle.events.specs.Links.{Chain, Linked}
 use Rattle.events.specs.State.{Fit, Now}
-use Rattle.pcap.specs.Lists.{Arrivals, Progress, class_next, length_next, progress, listed}
-use Rattle.pcap.proofs.Listing.{at, coming, listed_count, listed_even, class_listed, length_listed, event_listed, box_listed, refused_listed}
+use Rattle.pcap.specs.Lists.{Arrivals, class_next, length_next, listed}
+use Rattle.pcap.proofs.Listing.{at, listed_count, listed_even, class_listed, length_listed, box_listed, refused_listed}
 
 module _ (tree : Tree) (arrivals : Arrivals) (rate : ℕ) where
   abbrev list : ℕ → Events

@@ -3,22 +3,19 @@
 use Prim.Native.Nat.{ℕ, zero, suc, ◌+◌, ◌-◌, ◌*◌, ◌^◌, ◌≤◌, ◌<◌}
 use mathlib.Core.Path.{◌≡◌, refl, sym, ap, ◌∙◌, subst}
 use mathlib.Core.Bool.{Bool, true, false, cond, ◌||◌}
-use mathlib.Core.List.{List, [], ◌∷◌}
+use mathlib.Core.List.{List}
 use native.Mathlib.Decide.{dec_lt}
-use native.Mathlib.Nat.{mul-le-mul_right}
 use native.Mathlib.Numerals.{add-one}
 use native.Mathlib.Omega.{arith}
 use lib.Dec.{eqb}
-use lib.ListN.{length, get_or, set, take, drop, get_or-eq_default}
+use lib.ListN.{get_or, set, take, drop}
 use lib.Seq.{get_or-drop}
-use Rattle.input.specs.declared.Event.{Event}
 use Rattle.input.specs.Limits.{most_events, most_bytes}
 use Rattle.input.specs.Classes.{Tree}
-use Rattle.input.specs.Events.{Events, count, decode, event}
+use Rattle.input.specs.Events.{Events, decode}
 use Rattle.input.specs.EventRows.{row_for}
 use Rattle.input.specs.Lent.{events_of}
 use Rattle.rules.specs.Box.{Rows, head, head_length}
-use Rattle.rules.specs.Steps.{after}
 use Rattle.rules.specs.Refused.{idle, event_refused}
 use Rattle.laws.specs.History.{Accepted}
 use Rattle.laws.proofs.Run.Sizes.{heads_below}
@@ -28,9 +25,9 @@ use Rattle.input.specs.Refusals.{meeting_refused}
 use Rattle.arrays.specs.declared.CountArrays.{CountArrays}
 use Rattle.choosing.specs.Filed.{Filing, Keeps}
 use Rattle.tables.specs.Judged.{Refuses, Judged}
-use Rattle.events.specs.State.{Fit, Now, Coming, Gone}
-use Rattle.pcap.specs.Lists.{Stamped, Arrivals, Progress, arrivals_with, sending, finishes, class_next, length_next, moment_next, due_next, proceeds, progress, listed}
-use Rattle.pcap.proofs.Listing.{at, coming, listed_count, event_listed, box_listed, refused_listed}
+use Rattle.events.specs.State.{Fit, Coming, Gone}
+use Rattle.pcap.specs.Lists.{Stamped, Arrivals, Progress, arrivals_with, sending, finishes, moment_next, due_next, proceeds, progress, listed}
+use Rattle.pcap.proofs.Listing.{coming, listed_count, event_listed, box_listed, refused_listed}
 use Rattle.listing.specs.declared.next.Next.{Next}
 use Rattle.listing.specs.Next.{NextIs}
 use Rattle.listing.specs.declared.Turn.{Turn}

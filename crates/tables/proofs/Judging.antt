@@ -33,6 +33,10 @@ pub judged_as : {A : Type 0} (one other : Refusal) (found : A) (r : Result A Ref
 judged_as one other found r same judged = rw (← same) judged
 
 -- an error that a `?` hands on
+pub err_is : {A : Type 0} (r : Result A Refusal) (e : Refusal) → IsErrAnd r (λ x. x ≡ e) → r ≡ Err e
+err_is (Ok x) e none = absurd none
+err_is (Err x) e same = ap Err same
+
 pub handed : {A : Type 0} (refusal : Refusal) (found : A) (r : Result A Refusal) (e : Refusal) → IsErrAnd r (λ x. x ≡ e) → Refuses refusal e → Judged refusal found r
 handed refusal found (Ok x) e none judged = absurd none
 handed refusal found (Err x) e same judged = rw same judged
