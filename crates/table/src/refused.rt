@@ -1,92 +1,70 @@
 // All refusals of a table: their answers, and a sentence for each.
-use files::{STDERR_FILENO, Status, begin_refusal, hand_over};
+use files::{begin_refusal, say};
 use input::{Answer, MOST_ROWS};
 use lines::put_end;
-use output::{put_then, put_word};
-use sentences::SENTENCE_BYTES;
+use output::Page;
+use sentences::{Columns, SENTENCE_BYTES};
 use words::word;
 
-// Puts the answers of the rows that these numbers refuse, each with its second place.
-pub fn put_answers(page: &mut [u8], used: usize, numbers: &[u32], seconds: &[u32]) -> usize {
-    let mut used = used;
-    let mut row = 0;
-    while row < MOST_ROWS as u32 {
-        used = put_answer(page, used, word(numbers, row), row, word(seconds, row));
-        row += 1;
-    }
-    used
+// Room for the heading and for two answers of each row.
+pub const ANSWERS_BYTES: usize = 64 * (2 * MOST_ROWS + 1);
+
+// The numbers that refuse each row, 0 where it is not refused, and the second place of each.
+#[derive(Clone, Copy)]
+pub struct Refusals<'a> {
+    pub numbers: &'a [u32],
+    pub seconds: &'a [u32],
 }
 
-// Of a row that is refused its answer, after the heading where it is the first.
-fn put_answer(page: &mut [u8], used: usize, number: u32, row: u32, second: u32) -> usize {
-    if number == 0 {
-        return used;
+impl<'a> Refusals<'a> {
+    fn answer(self, row: u32) -> Option<Answer> {
+        match word(self.numbers, row) {
+            0 => None,
+            number => Some(Answer {
+                number,
+                place: row,
+                second: word(self.seconds, row),
+                count: 0,
+            }),
+        }
     }
-    if used == 0 {
-        return lines::put_answer(page, 0, answer_of(number, row, second));
+
+    // Puts the answers.
+    pub fn put(self, page: &mut Page<ANSWERS_BYTES>) {
+        for row in 0..MOST_ROWS as u32 {
+            if let Some(answer) = self.answer(row) {
+                put_answer(page, answer);
+            }
+        }
     }
-    let used = put_then(page, used, number, 44);
-    let used = put_then(page, used, row, 44);
-    let used = put_then(page, used, second, 44);
-    let used = put_word(page, used, 0);
-    put_end(page, used)
+
+    // Says what each of them names, to standard error.
+    pub fn tell(self, rt: &HostRuntime, rows: u64, table: Columns) {
+        for row in 0..MOST_ROWS as u32 {
+            if let Some(answer) = self.answer(row) {
+                tell(rt, answer, rows, table);
+            }
+        }
+    }
 }
 
-fn answer_of(number: u32, place: u32, second: u32) -> Answer {
-    Answer {
-        number,
-        place,
-        second,
-        count: 0,
+// An answer, after the heading where it is the first.
+fn put_answer(page: &mut Page<ANSWERS_BYTES>, answer: Answer) {
+    if page.text().is_empty() {
+        lines::put_answer(page, answer);
+        return;
     }
-}
-
-// Says what each of these numbers names, to standard error.
-pub fn tell_all<'a>(
-    rt: &HostRuntime,
-    numbers: &'a [u32],
-    seconds: &'a [u32],
-    rows: u64,
-    identifiers: &'a [u32],
-    parents: &'a [u32],
-    shares: &'a [u32],
-) {
-    let mut row = 0;
-    while row < MOST_ROWS as u32 {
-        tell(
-            rt,
-            answer_of(word(numbers, row), row, word(seconds, row)),
-            rows,
-            identifiers,
-            parents,
-            shares,
-        );
-        row += 1;
-    }
+    page.put_then(answer.number, b',');
+    page.put_then(answer.place, b',');
+    page.put_then(answer.second, b',');
+    page.put_word(answer.count);
+    put_end(page);
 }
 
 // Of a refusal its sentence.
-fn tell<'a>(
-    rt: &HostRuntime,
-    answer: Answer,
-    rows: u64,
-    identifiers: &'a [u32],
-    parents: &'a [u32],
-    shares: &'a [u32],
-) {
-    if answer.number == 0 {
-        return;
-    }
-    let mut page = [0u8; SENTENCE_BYTES];
-    let used = begin_refusal(rt, &mut page, answer.number, 1);
-    let used = sentences::table_sentence(
-        &mut page,
-        used,
-        answer,
-        rows,
-        identifiers,
-        parents,
-        shares,
-    );
-    hand_over(STDERR_FILENO, &page, used);
+fn tell(rt: &HostRuntime, answer: Answer, rows: u64, table: Columns) {
+    let mut page: Page<SENTENCE_BYTES> = Page::blank();
+    begin_refusal(rt, &mut page, answer.number, 1);
+    sentences::table_sentence(&mut page, answer, rows, table);
+    say(&page);
 }
