@@ -33,12 +33,8 @@ impl<'a> Columns<'a> {
             return None;
         }
         let earlier = &self.identifiers[..wide(row)];
-        let above = tables::row_of(earlier, word(self.parents, row));
-        if above < earlier.len() {
-            Some(above as u32)
-        } else {
-            None
-        }
+        let above = tables::row_of(earlier, word(self.parents, row))?;
+        Some(above as u32)
     }
 
     // Whether a row is a child of another.

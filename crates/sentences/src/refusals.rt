@@ -198,10 +198,8 @@ fn of_event<const N: usize>(page: &mut Page<N>, answer: Answer, identifiers: &[u
 fn row_with(identifiers: &[u32], identifier: u32) -> u32
     ensures { result ≡ named.row_with identifier identifiers.now }
 {
-    match tables::row_of(identifiers, identifier) {
-        row if row < MOST_ROWS => row as u32,
-        _ => 0,
-    }
+    let row = tables::row_of(identifiers, identifier).unwrap_or(identifiers.len());
+    if row < MOST_ROWS { row as u32 } else { 0 }
 }
 
 // 12, of an event for the class of this row.

@@ -1,7 +1,7 @@
 // A file, and how it is read byte by byte.
 ghost use Rattle.std.specs.Prelude.{◌≡◌};
 ghost use Rattle.text.specs.Reading as reading;
-ghost use Rattle.text.specs.Stated.{Begins, Feeds, Finishes};
+ghost use Rattle.text.specs.Stated.{Begins, Feeds, Finishes, Faults};
 
 use crate::{Fault, Line, Row, Scan};
 
@@ -21,12 +21,19 @@ impl Scan {
         }
     }
 
+    // Whether something is wrong with the line read last.
+    pub fn is_wrong(&self) -> bool
+        ensures { Faults self.now.found result }
+    {
+        self.found.is_err()
+    }
+
     // The scan with one byte more.
     #[tactic(auto, unfolding(crate::specs::Reading::after, crate::specs::Reading::within))]
     pub fn feed(self, byte: u8) -> Scan
         ensures { Feeds self byte result }
     {
-        if self.found.is_err() {
+        if self.is_wrong() {
             return self;
         }
         if byte == b'\n' {
