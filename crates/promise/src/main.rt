@@ -13,11 +13,10 @@ use input::{Answer, MOST_EVENTS, Refusal};
 use output::Page;
 use printing::Sheet;
 use sentences::{Columns, SENTENCE_BYTES, table_sentence};
-use std::process::ExitCode;
 use text::Field;
 
-fn main(rt: HostRuntime) -> ExitCode {
-    files::status(called(&rt))
+fn main(rt: HostRuntime) {
+    files::end_with(called(&rt));
 }
 
 // Looks at the call and goes on.
