@@ -19,6 +19,7 @@ pub struct TreeArrays {
 
 impl TreeArrays {
     // The tree before its first row is read.
+    #[tactic(auto, unfolding(input::specs::Classes::zeros, crate::specs::Arrays::no_tree))]
     pub fn zeros() -> TreeArrays
         ensures { result ≡ no_tree }
     {
@@ -44,6 +45,7 @@ pub struct RowArrays {
 
 impl RowArrays {
     // The rows before the first event.
+    #[tactic(auto, unfolding(input::specs::Classes::zeros, rules::specs::Box::fresh))]
     pub fn zeros() -> RowArrays
         ensures { rows_in result ≡ fresh.rows }
     {
@@ -57,6 +59,7 @@ impl RowArrays {
         }
     }
 
+    #[tactic(auto, unfolding(rules::specs::Box::has_head))]
     pub fn has_head(&self, r: usize) -> bool
         requires { r < most_rows }
         ensures { result ≡ has_head (rows_in self.now) r }
@@ -65,6 +68,7 @@ impl RowArrays {
     }
 
     // Row r has this head, of this length and class; nothing else changes.
+    #[tactic(auto, unfolding(rules::specs::Steps::with_head))]
     pub fn set_head(&mut self, r: usize, packet: u32, length: u32, class: u32)
         requires { r < most_rows }
         ensures rows_after { rows_in self.new ≡ with_head r packet length class (rows_in self.old) }
@@ -86,6 +90,7 @@ pub struct CountArrays {
 
 impl CountArrays {
     // The counts before the first event.
+    #[tactic(auto, unfolding(input::specs::Classes::zeros, crate::specs::Arrays::no_counts))]
     pub fn zeros() -> CountArrays
         ensures { result ≡ no_counts }
     {

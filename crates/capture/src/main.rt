@@ -16,64 +16,64 @@ ghost use Rattle.pcap.specs.Lists.{Stamped};
 use asked::argument;
 use captures::MOST_RECORDS;
 use choosing::Way;
-use files::{
-    Status, argument_count, complain, end_with, first, input_twice, load_capture, load_table,
-};
+use files::{Stopped, Table, argument_count, complain, input_twice, load_capture};
 use input::{Answer, MOST_EVENTS, REPORT_WORDS};
 use pcap::Sorting;
 use reading::read_records;
-use sentences::HELD_ROWS;
-use text::Field;
+use sentences::{Columns, HELD_ROWS};
 
 // The bytes of a capture that are held.
 const HELD_CAPTURE: usize = 4194304;
 
+// What is replayed: a capture, the classes for its packets, the bytes that the line carries in a second, and a table, of whose file's rows
+// the columns may have less.
+#[derive(Clone, Copy)]
+pub struct Given<'a> {
+    pub capture: &'a [u8],
+    pub sorting: Sorting,
+    pub rate: u32,
+    pub rows: u64,
+    pub table: Columns<'a>,
+}
+
 fn main(rt: HostRuntime) {
-    end_with(called(&rt));
+    files::end_with(called(&rt));
 }
 
 // Looks at the call and goes on.
-fn called(rt: &HostRuntime) -> Status {
+fn called(rt: &HostRuntime) -> Result<(), Stopped> {
     if argument_count(rt) != 7 {
-        return complain(
+        return Err(complain(
             b"cannot read: give a capture, a class table, three classes and a rate, capture CAPTURE TABLE FIRST SECOND THIRD RATE\n",
-        );
+        ));
     }
     if input_twice(rt) {
-        return files::twice();
+        return Err(files::twice());
     }
-    let Field::Number(first) = argument(rt, 3, b"FIRST") else {
-        return Status::Failed;
+    let sorting = Sorting {
+        first: argument(rt, 3, b"FIRST")?,
+        second: argument(rt, 4, b"SECOND")?,
+        third: argument(rt, 5, b"THIRD")?,
     };
-    let Field::Number(second) = argument(rt, 4, b"SECOND") else {
-        return Status::Failed;
-    };
-    let Field::Number(third) = argument(rt, 5, b"THIRD") else {
-        return Status::Failed;
-    };
-    let Field::Number(rate) = argument(rt, 6, b"RATE") else {
-        return Status::Failed;
-    };
-    with_numbers(
-        rt,
-        Sorting {
-            first,
-            second,
-            third,
-        },
-        rate,
-    )
+    let rate = argument(rt, 6, b"RATE")?;
+    with_numbers(rt, sorting, rate)
 }
 
-// Reads the capture and goes on.
-fn with_numbers(rt: &HostRuntime, sorting: Sorting, rate: u32) -> Status {
+// Reads the capture and the table, and goes on.
+fn with_numbers(rt: &HostRuntime, sorting: Sorting, rate: u32) -> Result<(), Stopped> {
     let mut capture = blank();
-    let held = load_capture(rt, 1, &mut capture);
-    let size = held.size;
-    if held.good {
-        return with_capture(rt, &capture[..size], sorting, rate);
-    }
-    Status::Failed
+    let size = load_capture(rt, 1, &mut capture)?;
+    let table = Table::load(rt, 2)?;
+    with_given(
+        rt,
+        Given {
+            capture: &capture[..size],
+            sorting,
+            rate,
+            rows: table.rows,
+            table: table.columns(),
+        },
+    )
 }
 
 // Room for a capture. Its length is all that lending it needs, and a proof that looks at more would count all its bytes.
@@ -83,167 +83,53 @@ fn blank() -> [u8; HELD_CAPTURE]
     [0; HELD_CAPTURE]
 }
 
-// Reads the table and goes on.
-fn with_capture(rt: &HostRuntime, capture: &[u8], sorting: Sorting, rate: u32) -> Status {
-    let mut identifiers = [0u32; HELD_ROWS];
-    let mut parents = [0u32; HELD_ROWS];
-    let mut shares = [0u32; HELD_ROWS];
-    let table = load_table(rt, 2, &mut identifiers, &mut parents, &mut shares);
-    let status = table.status;
-    if let Status::Done = status {
-        return with_table(
-            rt,
-            capture,
-            sorting,
-            rate,
-            table.rows,
-            first(&identifiers, table.rows),
-            first(&parents, table.rows),
-            first(&shares, table.rows),
-        );
-    }
-    status
-}
-
-// Reads the records and goes on. Their classes and lengths stand where the list is put, and stay there if it is refused. The count of rows
-// is that of the file, of which the slices may have less.
-fn with_table<'a>(
-    rt: &HostRuntime,
-    capture: &'a [u8],
-    sorting: Sorting,
-    rate: u32,
-    rows: u64,
-    identifiers: &'a [u32],
-    parents: &'a [u32],
-    shares: &'a [u32],
-) -> Status {
+// Reads the records and goes on. Their classes and lengths stand where the list is put, and stay there if it is refused.
+fn with_given(rt: &HostRuntime, given: Given) -> Result<(), Stopped> {
     let mut stamps = [0u64; MOST_RECORDS];
     let mut classes = [0u32; MOST_EVENTS];
     let mut lengths = [0u32; MOST_EVENTS];
     let count = read_records(
-        capture,
-        sorting,
-        rate,
+        given.capture,
+        given.sorting,
+        given.rate,
         &mut stamps,
         &mut classes,
         &mut lengths,
     );
-    replay(
-        rt,
-        capture,
-        sorting,
-        rate,
-        rows,
-        identifiers,
-        parents,
-        shares,
-        &stamps[..count],
-        &mut classes,
-        &mut lengths,
-    )
+    replay(rt, given, &stamps[..count], &mut classes, &mut lengths)
 }
 
-// Replays the packets and goes on.
-fn replay<'a>(
+// Replays the packets, and prints what came of it, done or refused.
+fn replay(
     rt: &HostRuntime,
-    capture: &'a [u8],
-    sorting: Sorting,
-    rate: u32,
-    rows: u64,
-    identifiers: &'a [u32],
-    parents: &'a [u32],
-    shares: &'a [u32],
-    stamps: &'a [u64],
+    given: Given,
+    stamps: &[u64],
     classes: &mut [u32],
     lengths: &mut [u32],
-) -> Status
+) -> Result<(), Stopped>
     requires { Stamped stamps.now × (length classes.old ≤ most_events) }
 {
     let mut order = [0u32; MOST_EVENTS];
-    let answer = run(
-        capture,
-        sorting,
-        rate,
-        identifiers,
-        parents,
-        shares,
-        classes,
-        lengths,
-        &mut order,
-    );
-    tell(
-        rt,
-        answer,
-        capture,
-        rate,
-        rows,
-        identifiers,
-        parents,
-        shares,
-        stamps,
-        classes,
-        lengths,
-        &order,
-    )
-}
-
-// Prints what came of a replay, done or refused, and answers how that ended.
-fn tell<'a>(
-    rt: &HostRuntime,
-    answer: Answer,
-    capture: &'a [u8],
-    rate: u32,
-    rows: u64,
-    identifiers: &'a [u32],
-    parents: &'a [u32],
-    shares: &'a [u32],
-    stamps: &'a [u64],
-    classes: &'a [u32],
-    lengths: &'a [u32],
-    order: &'a [u32],
-) -> Status
-    requires { Stamped stamps.now × (length classes.now ≤ most_events) }
-{
+    let answer = run(given, classes, lengths, &mut order);
     if answer.number == 0 {
-        return printing::print(rt, answer, rate, stamps, classes, lengths, order);
+        return printing::print(rt, answer, given.rate, stamps, classes, lengths, &order);
     }
-    refusals::tell(
-        rt,
-        answer,
-        capture,
-        rate,
-        rows,
-        identifiers,
-        parents,
-        shares,
-        classes,
-        lengths,
-    )
+    refusals::tell(rt, answer, given, classes, lengths)
 }
 
 // The run, whose report and lags are not printed.
-fn run(
-    capture: &[u8],
-    sorting: Sorting,
-    rate: u32,
-    identifiers: &[u32],
-    parents: &[u32],
-    shares: &[u32],
-    classes: &mut [u32],
-    lengths: &mut [u32],
-    order: &mut [u32],
-) -> Answer {
+fn run(given: Given, classes: &mut [u32], lengths: &mut [u32], order: &mut [u32]) -> Answer {
     let mut report = [0u64; REPORT_WORDS * HELD_ROWS];
     let mut lags = [0i64; HELD_ROWS];
     let mut working = [0u32; MOST_EVENTS];
     captures::replay(
         Way::Heaps,
-        capture,
-        sorting,
-        rate,
-        identifiers,
-        parents,
-        shares,
+        given.capture,
+        given.sorting,
+        given.rate,
+        given.table.identifiers,
+        given.table.parents,
+        given.table.shares,
         classes,
         lengths,
         order,

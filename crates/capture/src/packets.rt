@@ -4,8 +4,9 @@ ghost use Rattle.std.specs.Prelude.{◌<◌, ◌^◌};
 use crate::reading::{headed, number_of};
 use captures::MOST_RECORDS;
 use input::{Answer, LEAST_BYTES, MOST_BYTES};
+use output::Page;
 use records::{HEADER_BYTES, layout_of, offset_of, packet};
-use sentences::fill;
+use sentences::{Columns, Lists, fill};
 use tables::row_of;
 use words::{long, wide, word};
 
@@ -20,86 +21,56 @@ struct Packet {
     point: u64,
 }
 
-pub fn of_packet<'a>(
-    page: &mut [u8],
-    used: usize,
+pub fn of_packet<const N: usize>(
+    page: &mut Page<N>,
     answer: Answer,
-    capture: &'a [u8],
-    identifiers: &'a [u32],
-    parents: &'a [u32],
-    classes: &'a [u32],
-    lengths: &'a [u32],
-) -> usize {
-    let record = first_refused(answer.number, identifiers, parents, classes, lengths);
+    capture: &[u8],
+    table: Columns,
+    list: Lists,
+) {
+    let record = first_refused(answer.number, table, list);
     let at = offset(capture, record);
     let named = Packet {
         record: long(record),
         byte: at as u64,
         event: long(answer.place),
-        class: word(classes, record),
-        length: word(lengths, record),
+        class: word(list.classes, record),
+        length: word(list.lengths, record),
         point: code_point(capture, at),
     };
-    put_sentence(page, used, answer.number, named, identifiers)
+    put_sentence(page, answer.number, named, table.identifiers)
 }
 
 // The first record that this number refuses is the one that was refused: packets arrive in the order of their records, and finishes are not
 // refused.
-fn first_refused<'a>(
-    number: u32,
-    identifiers: &'a [u32],
-    parents: &'a [u32],
-    classes: &'a [u32],
-    lengths: &'a [u32],
-) -> u32 {
-    let mut record = 0;
-    while record < MOST_RECORDS as u32 {
-        if refuses(
-            number,
-            identifiers,
-            parents,
-            word(classes, record),
-            word(lengths, record),
-        ) {
+fn first_refused(number: u32, table: Columns, list: Lists) -> u32 {
+    let most = MOST_RECORDS as u32;
+    for record in 0..most {
+        let class = word(list.classes, record);
+        if refuses(number, table, class, word(list.lengths, record)) {
             return record;
         }
-        record += 1;
     }
-    record
+    most
 }
 
 // Whether this number refuses a packet, where no other did.
-fn refuses<'a>(
-    number: u32,
-    identifiers: &'a [u32],
-    parents: &'a [u32],
-    class: u32,
-    length: u32,
-) -> bool {
+fn refuses(number: u32, table: Columns, class: u32, length: u32) -> bool {
     match number {
-        11 => row_of(identifiers, class) == identifiers.len(),
-        12 => sends_not(identifiers, parents, class),
+        11 => row_of(table.identifiers, class) == table.identifiers.len(),
+        12 => sends_not(table, class),
         _ => no_packet(class, length),
     }
 }
 
 // Whether the class is the line itself or has classes below it.
-fn sends_not<'a>(identifiers: &'a [u32], parents: &'a [u32], class: u32) -> bool {
-    if row_of(identifiers, class) == 0 {
-        return true;
-    }
-    row_of(parents, class) < parents.len()
+fn sends_not(table: Columns, class: u32) -> bool {
+    row_of(table.identifiers, class) == 0 || row_of(table.parents, class) < table.parents.len()
 }
 
 // Whether the class is none, or the length no packet's.
 fn no_packet(class: u32, length: u32) -> bool {
-    if class == 0 {
-        return true;
-    }
-    if length < LEAST_BYTES {
-        return true;
-    }
-    MOST_BYTES < length
+    class == 0 || length < LEAST_BYTES || MOST_BYTES < length
 }
 
 // The byte at which this record begins.
@@ -128,17 +99,15 @@ fn point_of(packet: &[u8]) -> u64 {
     number_of(packet[1] / 4)
 }
 
-fn put_sentence(
-    page: &mut [u8],
-    used: usize,
+fn put_sentence<const N: usize>(
+    page: &mut Page<N>,
     number: u32,
     named: Packet,
     identifiers: &[u32],
-) -> usize {
+) {
     match number {
         11 => fill(
             page,
-            used,
             b"record # (byte #), event # of the list, is for class #, which no row has; name a class of the table for code point #.\n",
             &[
                 named.record,
@@ -148,19 +117,18 @@ fn put_sentence(
                 named.point,
             ],
         ),
-        12 => not_sending(page, used, named, row_of(identifiers, named.class)),
-        _ => of_length(page, used, named),
+        12 => not_sending(page, named, row_of(identifiers, named.class)),
+        _ => of_length(page, named),
     }
 }
 
 // 12, of a packet for the class of this row. A table's file has its heading in line 1, so row 0 is in line 2.
-fn not_sending(page: &mut [u8], used: usize, named: Packet, row: usize) -> usize
+fn not_sending<const N: usize>(page: &mut Page<N>, named: Packet, row: usize)
     requires { row < 2 ^ 63 }
 {
     if row == 0 {
         return fill(
             page,
-            used,
             b"record # (byte #), event # of the list, is for class #, row 0 (line 2), which is the line itself; name a class with no class below it for code point #.\n",
             &[
                 named.record,
@@ -173,7 +141,6 @@ fn not_sending(page: &mut [u8], used: usize, named: Packet, row: usize) -> usize
     }
     fill(
         page,
-        used,
         b"record # (byte #), event # of the list, is for class #, row # (line #), which has classes below it; name a class with no class below it for code point #.\n",
         &[
             named.record,
@@ -188,18 +155,16 @@ fn not_sending(page: &mut [u8], used: usize, named: Packet, row: usize) -> usize
 }
 
 // 13.
-fn of_length(page: &mut [u8], used: usize, named: Packet) -> usize {
+fn of_length<const N: usize>(page: &mut Page<N>, named: Packet) {
     if named.class == 0 {
         return fill(
             page,
-            used,
             b"record # (byte #), event # of the list, is for class 0, which is no class; name a class of the table for code point #.\n",
             &[named.record, named.byte, named.event, named.point],
         );
     }
     fill(
         page,
-        used,
         b"record # (byte #), event # of the list, for class #, has original length #; a packet has # to # bytes.\n",
         &[
             named.record,

@@ -1,133 +1,73 @@
 // What is printed of a replay that is done: the answer, the heading, and a line for each packet in the order of sending.
-ghost use Rattle.std.specs.Prelude.{◌≡◌, ◌≤◌, ◌<◌, length, take, drop};
+ghost use Rattle.std.specs.Prelude.{◌≤◌, ◌<◌, length};
 ghost use Rattle.input.specs.Limits.{most_events};
 ghost use Rattle.timetable.specs.Counted.{Recorded};
 ghost use Rattle.pcap.specs.Lists.{Stamped};
 ghost use Rattle.timetable.specs.Free.{most_packets, most_free};
 
-use files::{Status, first};
+use files::{Stopped, first};
 use input::{Answer, MOST_EVENTS};
-use timetable::{MOST_FREE, MOST_PACKETS, PACKETS_BYTES};
+use output::Page;
+use timetable::{MOST_FREE, MOST_PACKETS, PACKETS_BYTES, Packets};
 use words::long;
 
-// Prints all of it, from the records' stamps, the list that was replayed and the order of sending, and answers how that ended.
-pub fn print<'a>(
+// Prints all of it, from the records' stamps, the list that was replayed and the order of sending.
+pub fn print(
     rt: &HostRuntime,
     answer: Answer,
     rate: u32,
-    stamps: &'a [u64],
-    classes: &'a [u32],
-    lengths: &'a [u32],
-    order: &'a [u32],
-) -> Status
+    stamps: &[u64],
+    classes: &[u32],
+    lengths: &[u32],
+    order: &[u32],
+) -> Result<(), Stopped>
     requires { Stamped stamps.now × (length classes.now ≤ most_events) }
 {
-    if !print_heading(rt, answer) {
-        return Status::Failed;
-    }
-    let packets = long(answer.count);
-    print_packets(
-        rt,
-        rate,
-        stamps,
-        first(classes, 2 * packets),
-        first(lengths, 2 * packets),
-        first(order, packets),
-    )
-}
-
-// The answer's two lines and the heading; answers whether they were written.
-fn print_heading(rt: &HostRuntime, answer: Answer) -> bool {
-    let mut page = [0u8; 512];
-    let used = lines::put_answer(&mut page, 0, answer);
-    let used = timetable::put_heading(&mut page, used);
-    files::print(rt, &page, used)
-}
-
-fn print_packets<'a>(
-    rt: &HostRuntime,
-    rate: u32,
-    stamps: &'a [u64],
-    classes: &'a [u32],
-    lengths: &'a [u32],
-    order: &'a [u32],
-) -> Status
-    requires { Stamped stamps.now × (length classes.now ≤ most_events) }
-{
+    print_heading(rt, answer)?;
+    let count = long(answer.count);
+    let classes = first(classes, 2 * count);
     let mut records = [0u32; MOST_EVENTS + 1];
     timetable::count_records(classes, &mut records);
-    print_pieces(rt, rate, stamps, classes, lengths, &records, order)
+    let packets = Packets {
+        stamps,
+        classes,
+        lengths: first(lengths, 2 * count),
+        records: &records,
+        rate,
+    };
+    print_packets(rt, packets, first(order, count))
+}
+
+// The answer's two lines and the heading.
+fn print_heading(rt: &HostRuntime, answer: Answer) -> Result<(), Stopped> {
+    let mut page: Page<512> = Page::blank();
+    lines::put_answer(&mut page, answer);
+    timetable::put_heading(&mut page);
+    files::print(rt, &page)
 }
 
 // Some packets at a time, so that a small page holds their lines. No run comes to a moment past the latest (`Latest: in-time` of the
-// crate `timetable`); a piece that could not be written gives one, and nothing more is printed.
-fn print_pieces<'a>(
-    rt: &HostRuntime,
-    rate: u32,
-    stamps: &'a [u64],
-    classes: &'a [u32],
-    lengths: &'a [u32],
-    records: &'a [u32],
-    order: &'a [u32],
-) -> Status
-    requires { Stamped stamps.now × (length classes.now < length records.now) × Recorded classes.now records.now }
+// crate `timetable`).
+fn print_packets(rt: &HostRuntime, packets: Packets, order: &[u32]) -> Result<(), Stopped>
+    requires { Stamped packets.stamps.now × (length packets.classes.now < length packets.records.now) × Recorded packets.classes.now packets.records.now }
 {
     let mut free = 0;
-    let mut from = 0;
-    while from < order.len() {
+    for piece in order.chunks(MOST_PACKETS) {
+        free = print_piece(rt, packets, free, piece)?;
         if MOST_FREE < free {
-            return Status::Failed;
+            return Err(Stopped::Failed);
         }
-        free = print_piece(
-            rt,
-            rate,
-            stamps,
-            classes,
-            lengths,
-            records,
-            free,
-            piece(order, from),
-        );
-        from += MOST_PACKETS;
     }
-    if MOST_FREE < free {
-        return Status::Failed;
-    }
-    Status::Done
-}
-
-// The packets from this one on, as many as are put at a time.
-fn piece(order: &[u32], from: usize) -> &[u32]
-    requires { from ≤ length order.now }
-    ensures { result.now ≡ take most_packets (drop from order.now) }
-{
-    if order.len() - from < MOST_PACKETS {
-        return &order[from..];
-    }
-    let to = from + MOST_PACKETS;
-    &order[from..to]
+    Ok(())
 }
 
 // Prints the lines of these packets, and answers when the line is free after them.
-fn print_piece<'a>(
-    rt: &HostRuntime,
-    rate: u32,
-    stamps: &'a [u64],
-    classes: &'a [u32],
-    lengths: &'a [u32],
-    records: &'a [u32],
-    free: u64,
-    order: &'a [u32],
-) -> u64
-    requires { Stamped stamps.now × (length classes.now < length records.now) × Recorded classes.now records.now
+fn print_piece(rt: &HostRuntime, packets: Packets, free: u64, order: &[u32]) -> Result<u64, Stopped>
+    requires { Stamped packets.stamps.now × (length packets.classes.now < length packets.records.now) × Recorded packets.classes.now packets.records.now
         × (free ≤ most_free) × (length order.now ≤ most_packets) }
 {
-    let mut page = [0u8; PACKETS_BYTES];
-    let put = timetable::put_packets(
-        &mut page, 0, stamps, classes, lengths, records, rate, free, order,
-    );
-    if files::print(rt, &page, put.used) {
-        return put.free;
-    }
-    u64::MAX
+    let mut page: Page<PACKETS_BYTES> = Page::blank();
+    let free = packets.put_packets(&mut page, free, order);
+    files::print(rt, &page)?;
+    Ok(free)
 }

@@ -17,19 +17,11 @@ pub fn read_records(
 ) -> usize
     ensures { (result ≤ length stamps.new) × ((k : ℕ) → k < result → get_or stamps.new k 0 < 2 ^ 53) }
 {
-    let scan = records::check(capture, rate);
-    let refusal = scan.refusal;
+    let Ok(scan) = records::check(capture, rate) else {
+        return 0;
+    };
     let count = scan.records;
-    if refusal.number != 0 {
-        return 0;
-    }
-    if stamps.len() < count {
-        return 0;
-    }
-    if classes.len() < count {
-        return 0;
-    }
-    if lengths.len() < count {
+    if stamps.len() < count || classes.len() < count || lengths.len() < count {
         return 0;
     }
     records::read(

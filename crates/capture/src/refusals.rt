@@ -2,53 +2,35 @@
 ghost use Rattle.std.specs.Prelude.{◌+◌, ◌≤◌, length};
 ghost use Rattle.pcap.specs.Headers.{header_bytes, record_bytes};
 
+use crate::Given;
 use crate::packets::of_packet;
 use crate::reading::{headed, number_of};
 use captures::MOST_RECORDS;
-use files::{NO_FILE, STDERR_FILENO, Status, begin_refusal, hand_over, print_answer};
+use files::{NO_FILE, Stopped, begin_refusal, print_answer, say};
 use input::Answer;
+use output::Page;
 use pcap::Layout;
 use records::{
     HEADER_BYTES, LEAST_HEADER, RECORD_BYTES, half, included, layout_of, offset_of, packet, stamp,
     word,
 };
-use sentences::{SENTENCE_BYTES, fill, table_sentence};
+use sentences::{Lists, SENTENCE_BYTES, fill, table_sentence};
 use words::{long, wide};
 
 // Prints a refusal's answer and, once that is written, says to standard error what it names. The classes and the lengths are the records'.
-// Answers how it ended.
-pub fn tell<'a>(
+pub fn tell(
     rt: &HostRuntime,
     answer: Answer,
-    capture: &'a [u8],
-    rate: u32,
-    rows: u64,
-    identifiers: &'a [u32],
-    parents: &'a [u32],
-    shares: &'a [u32],
-    classes: &'a [u32],
-    lengths: &'a [u32],
-) -> Status {
-    if !print_answer(rt, answer) {
-        return Status::Failed;
-    }
-    let mut page = [0u8; SENTENCE_BYTES];
-    let used = begin_refusal(rt, &mut page, answer.number, file_of(answer.number));
-    let used = put_sentence(
-        &mut page,
-        used,
-        answer,
-        capture,
-        rate,
-        rows,
-        identifiers,
-        parents,
-        shares,
-        classes,
-        lengths,
-    );
-    hand_over(STDERR_FILENO, &page, used);
-    Status::Refused
+    given: Given,
+    classes: &[u32],
+    lengths: &[u32],
+) -> Result<(), Stopped> {
+    print_answer(rt, answer)?;
+    let mut page: Page<SENTENCE_BYTES> = Page::blank();
+    begin_refusal(rt, &mut page, answer.number, file_of(answer.number));
+    put_sentence(&mut page, answer, given, Lists { classes, lengths });
+    say(&page);
+    Err(Stopped::Refused)
 }
 
 // Which argument names the file that a refusal is in; a rate is in none.
@@ -60,55 +42,32 @@ fn file_of(number: u32) -> usize {
     }
 }
 
-fn put_sentence<'a>(
-    page: &mut [u8],
-    used: usize,
-    answer: Answer,
-    capture: &'a [u8],
-    rate: u32,
-    rows: u64,
-    identifiers: &'a [u32],
-    parents: &'a [u32],
-    shares: &'a [u32],
-    classes: &'a [u32],
-    lengths: &'a [u32],
-) -> usize {
-    let number = answer.number;
-    match number {
-        2 => of_count(page, used, capture, rate),
-        11..=13 => of_packet(
-            page,
-            used,
-            answer,
-            capture,
-            identifiers,
-            parents,
-            classes,
-            lengths,
-        ),
-        30..=34 => of_header(page, used, number, capture),
-        35..=38 => of_records(page, used, answer, capture),
-        _ => table_sentence(page, used, answer, rows, identifiers, parents, shares),
+fn put_sentence<const N: usize>(page: &mut Page<N>, answer: Answer, given: Given, list: Lists) {
+    let capture = given.capture;
+    match answer.number {
+        2 => of_count(page, capture, given.rate),
+        11..=13 => of_packet(page, answer, capture, given.table, list),
+        30..=34 => of_header(page, answer.number, capture),
+        35..=38 => of_records(page, answer, capture),
+        _ => table_sentence(page, answer, given.rows, given.table),
     }
 }
 
 // 2: records, of which each takes two events.
-fn of_count(page: &mut [u8], used: usize, capture: &[u8], rate: u32) -> usize {
-    let scan = records::check(capture, rate);
+fn of_count<const N: usize>(page: &mut Page<N>, capture: &[u8], rate: u32) {
+    let count = records::check(capture, rate).map_or(0, |scan| scan.records as u64);
     fill(
         page,
-        used,
         b"the capture has # records; give it at most #.\n",
-        &[scan.records as u64, MOST_RECORDS as u64],
+        &[count, MOST_RECORDS as u64],
     )
 }
 
 // 30 to 34.
-fn of_header(page: &mut [u8], used: usize, number: u32, capture: &[u8]) -> usize {
+fn of_header<const N: usize>(page: &mut Page<N>, number: u32, capture: &[u8]) {
     if number == 30 {
         return fill(
             page,
-            used,
             b"the rate is 0; give the bytes that the line carries in a second, from 1 to #.\n",
             &[u32::MAX as u64],
         );
@@ -116,16 +75,15 @@ fn of_header(page: &mut [u8], used: usize, number: u32, capture: &[u8]) -> usize
     if capture.len() < HEADER_BYTES {
         return fill(
             page,
-            used,
             b"of the # bytes of a file header the capture has #; give a whole capture.\n",
             &[HEADER_BYTES as u64, capture.len() as u64],
         );
     }
-    of_layout(page, used, number, capture)
+    of_layout(page, number, capture)
 }
 
 // 32 to 34: the magic number, the version and the link type.
-fn of_layout(page: &mut [u8], used: usize, number: u32, capture: &[u8]) -> usize
+fn of_layout<const N: usize>(page: &mut Page<N>, number: u32, capture: &[u8])
     requires { header_bytes ≤ length capture.now }
 {
     let layout = layout_of(capture);
@@ -133,7 +91,6 @@ fn of_layout(page: &mut [u8], used: usize, number: u32, capture: &[u8]) -> usize
     match number {
         32 => fill(
             page,
-            used,
             b"the capture begins with the bytes #, #, #, # and not with a magic number of the classic layout; save it as pcap, say with editcap -F pcap.\n",
             &[
                 number_of(capture[0]),
@@ -144,13 +101,11 @@ fn of_layout(page: &mut [u8], used: usize, number: u32, capture: &[u8]) -> usize
         ),
         33 => fill(
             page,
-            used,
             b"the capture is of version #.# (byte 4); save it as version 2.4, say with editcap -F pcap.\n",
             &[long(half(capture, big, 4)), long(half(capture, big, 6))],
         ),
         _ => fill(
             page,
-            used,
             b"the capture has link type # (byte 20); give one of link type 101, raw IP packets.\n",
             &[long(word(capture, big, 20))],
         ),
@@ -158,34 +113,32 @@ fn of_layout(page: &mut [u8], used: usize, number: u32, capture: &[u8]) -> usize
 }
 
 // 35 to 38.
-fn of_records(page: &mut [u8], used: usize, answer: Answer, capture: &[u8]) -> usize {
+fn of_records<const N: usize>(page: &mut Page<N>, answer: Answer, capture: &[u8]) {
     if capture.len() < HEADER_BYTES {
-        return used;
+        return;
     }
     let layout = layout_of(capture);
     let at = offset_of(capture, layout, wide(answer.place));
     if capture.len() < at {
-        return used;
+        return;
     }
-    of_record(page, used, answer, capture, layout, at)
+    of_record(page, answer, capture, layout, at)
 }
 
 // The record begins at this byte.
-fn of_record(
-    page: &mut [u8],
-    used: usize,
+fn of_record<const N: usize>(
+    page: &mut Page<N>,
     answer: Answer,
     capture: &[u8],
     layout: Layout,
     at: usize,
-) -> usize
+)
     requires { at ≤ length capture.now }
 {
     let left = capture.len() - at;
     if left < RECORD_BYTES {
         return fill(
             page,
-            used,
             b"record # (byte #) has # of the # bytes of a record's header; the capture is cut off there: give it whole, or without that record.\n",
             &[
                 long(answer.place),
@@ -195,25 +148,23 @@ fn of_record(
             ],
         );
     }
-    of_begun(page, used, answer, capture, layout, at)
+    of_begun(page, answer, capture, layout, at)
 }
 
 // Its header is there.
-fn of_begun(
-    page: &mut [u8],
-    used: usize,
+fn of_begun<const N: usize>(
+    page: &mut Page<N>,
     answer: Answer,
     capture: &[u8],
     layout: Layout,
     at: usize,
-) -> usize
+)
     requires { at + record_bytes ≤ length capture.now }
 {
     let number = answer.number;
     match number {
         36 => fill(
             page,
-            used,
             b"record # (byte #) includes # bytes of a packet, of which # are there; the capture is cut off there: give it whole, or without that record.\n",
             &[
                 long(answer.place),
@@ -222,10 +173,9 @@ fn of_begun(
                 (capture.len() - at - RECORD_BYTES) as u64,
             ],
         ),
-        37 => of_ip(page, used, answer.place, at, packet(capture, layout, at)),
+        37 => of_ip(page, answer.place, at, packet(capture, layout, at)),
         _ => fill(
             page,
-            used,
             b"record # (byte #) is stamped # microseconds before the record above it; put records in the order of their stamps, say with reordercap.\n",
             &[
                 long(answer.place),
@@ -240,11 +190,10 @@ fn of_begun(
 }
 
 // 37, of the packet of the record that begins at this byte.
-fn of_ip(page: &mut [u8], used: usize, place: u32, at: usize, packet: &[u8]) -> usize {
+fn of_ip<const N: usize>(page: &mut Page<N>, place: u32, at: usize, packet: &[u8]) {
     if packet.len() < LEAST_HEADER {
         return fill(
             page,
-            used,
             b"record # (byte #) includes # of the # bytes of an IPv4 header; leave it out, or capture more of each packet.\n",
             &[
                 long(place),
@@ -258,14 +207,12 @@ fn of_ip(page: &mut [u8], used: usize, place: u32, at: usize, packet: &[u8]) -> 
     if first / 16 != 4 {
         return fill(
             page,
-            used,
             b"record # (byte #) has a packet of IP version #; leave it out, since packets are IPv4.\n",
             &[long(place), at as u64, number_of(first / 16)],
         );
     }
     fill(
         page,
-        used,
         b"record # (byte #) has an IPv4 header of # words, where 5 are the least; leave it out.\n",
         &[long(place), at as u64, number_of(first % 16)],
     )
@@ -285,5 +232,5 @@ fn stamp_above(capture: &[u8], layout: Layout, place: u32) -> u64 {
 
 // By how much a number is more than another.
 fn less(a: u64, b: u64) -> u64 {
-    if a < b { 0 } else { a - b }
+    a.saturating_sub(b)
 }

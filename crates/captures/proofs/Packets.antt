@@ -1,34 +1,29 @@
 -- Packets that arrive at given moments, replayed: refused by the table or by their list, or run.
 -- Assumes nothing.
-use Prim.Native.Nat.{ℕ, zero, suc, ◌*◌, ◌≤◌, ◌<◌}
+use Prim.Native.Nat.{ℕ, ◌*◌, ◌≤◌}
 use mathlib.Core.Path.{◌≡◌, refl, sym, ap, ◌∙◌, subst}
 use mathlib.Core.Logic.{◌≢◌}
-use mathlib.Core.Bool.{Bool, true, false, cond, not, ◌||◌}
-use mathlib.Core.List.{List, [], ◌∷◌}
+use mathlib.Core.List.{List, []}
 use native.Mathlib.Omega.{arith}
-use lib.Dec.{ltb, eqb}
 use lib.ListN.{length, take}
 use lib.IntN.{ℤ}
-use borrow.Author.Tests.{eq-eqb, ne_eqb, le-ltb, ltb-false}
+use borrow.Author.Tests.{ne_eqb, le-ltb}
 use Rattle.input.specs.declared.Refusal.{Refusal}
 use Rattle.input.specs.declared.Answer.{Answer}
 use Rattle.input.specs.Limits.{report_words, most_events}
 use Rattle.input.specs.Classes.{Table, Tree, tree_of}
 use Rattle.input.specs.Events.{Events, count}
 use Rattle.input.specs.Refusals.{Room, nothing, given, or_else, first, first_below, rows_refused, events_refused, room_refused, table_refused}
-use Rattle.input.specs.Lent.{table_of, events_of, room_with, tree_at}
-use Rattle.rules.specs.Outcome.{Lent, Outcome, room_of, refusing, outcome}
+use Rattle.input.specs.Lent.{events_of, room_with, tree_at}
+use Rattle.rules.specs.Outcome.{Lent, Outcome, room_of, refusing}
 use Rattle.rules.specs.Refused.{event_refused, refused}
-use Rattle.laws.proofs.Tree.Trees.{or_none, given_none, tree_rows}
 use Rattle.tables.specs.declared.Reading.{Reading}
 use Rattle.tables.specs.Answers.{answer, accepting}
-use Rattle.tables.specs.Sized.{Sized}
-use Rattle.tables.proofs.Answering.{answer_accepts, sized}
+use Rattle.tables.proofs.Answering.{answer_accepts}
 use Rattle.tables.proofs.Firsts.{or_else_second}
 use Rattle.checks.specs.Counted.{lengths_refused}
 use Rattle.checks.proofs.Whole.{answer_refusal, by_table, whole_rows, whole_listed}
 use Rattle.checks.proofs.Rooted.{known}
-use Rattle.events.specs.State.{Fit}
 use Rattle.engine.specs.Run.{left_of}
 use Rattle.engine.proofs.Accepting.{same_tree, fit}
 use Rattle.forms.specs.Outcomes.{answer_of}

@@ -1,40 +1,36 @@
 -- What is promised of every replay of a capture that is done: its results are the run's on the list that it gives, which is accepted, has an
 -- arrival and a finish for each record, in the order of the stamps, and never a finish of nothing.
 -- Assumes nothing.
-use Prim.Native.Nat.{ℕ, zero, suc, pred, ◌+◌, ◌*◌, ◌≤◌, ◌<◌}
-use mathlib.Core.Path.{◌≡◌, refl, sym, ap, ◌∙◌}
+use Prim.Native.Nat.{ℕ, suc, ◌+◌, ◌*◌, ◌≤◌, ◌<◌}
+use mathlib.Core.Path.{◌≡◌, refl, ap, ◌∙◌}
 use mathlib.Core.Logic.{◌≢◌, ◌⊎◌, inl, inr}
-use mathlib.Core.Bool.{Bool, true, false, cond}
+use mathlib.Core.Bool.{Bool, true, false}
 use mathlib.Core.List.{List}
 use native.Mathlib.Decide.{ℕ_discrete}
 use native.Mathlib.Omega.{arith}
-use lib.Dec.{ltb, eqb}
 use lib.ListN.{length}
 use borrow.Author.Tests.{eq-eqb, ne_eqb, ltb-false, lt-leb}
-use Rattle.input.specs.declared.Refusal.{Refusal}
 use Rattle.input.specs.declared.Event.TheVariants.{Arrival, Finish}
 use Rattle.input.specs.Classes.{Tree, tree_of}
 use Rattle.input.specs.Events.{Events, count, event}
-use Rattle.input.specs.Refusals.{first_below}
-use Rattle.rules.specs.Outcome.{Outcome, room_of, refusing, outcome, Ran}
+use Rattle.rules.specs.Outcome.{refusing, outcome, Ran}
 use Rattle.rules.specs.Box.{has_head}
 use Rattle.rules.specs.Steps.{after}
 use Rattle.rules.specs.Promise.{arrived, finish_count}
-use Rattle.rules.specs.Refused.{event_refused, refused}
+use Rattle.rules.specs.Refused.{event_refused}
 use Rattle.laws.specs.History.{Accepted}
-use Rattle.laws.proofs.Tree.Trees.{or_none, first_none, below_none, given_none, accepted}
+use Rattle.laws.proofs.Tree.Trees.{first_none, below_none, given_none, accepted}
 use Rattle.laws.proofs.Event.Turns.{fewer}
 use Rattle.laws.proofs.Outcome.Results.{not_refused}
 use Rattle.laws.proofs.Run.History.{idle_counted, busy_counted}
-use Rattle.pcap.specs.Headers.{header_bytes}
 use Rattle.pcap.specs.Records.{offset, ended, most_records, record_count, stamp, original}
 use Rattle.pcap.specs.Records as fields
-use Rattle.pcap.specs.Faults.{begun_refused, record_refused, records_refused, capture_refused, header_refused}
+use Rattle.pcap.specs.Faults.{begun_refused, record_refused, records_refused, capture_refused}
 use Rattle.pcap.specs.Lists.{Arrivals, Progress, packets, stamp_of, class_of, length_of, finishes, moment_next, progress, listed, list_of}
 use Rattle.pcap.specs.Outcomes.{CaptureLent, CaptureLeft, arrivals_below, arrivals_of, captured_list, run_lent, before_run, list_over, having_run, captured, Replays}
 use Rattle.pcap.proofs.Listing.{grown_at, event_listed, refused_listed}
 use Rattle.pcap.proofs.Whole.{Ascending, finish_comes, arrival_comes, came, few_arrived, still_one, moments_ascend, never_fourteen}
-use Rattle.records.proofs.Passing.{counted_inside, counted_whole}
+use Rattle.records.proofs.Passing.{counted_inside}
 use Rattle.records.proofs.Turns.{stamps_long}
 use Rattle.captures.proofs.Packets.{list_count}
 use Rattle.captures.proofs.Whole.{below_most}

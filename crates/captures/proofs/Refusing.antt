@@ -1,21 +1,17 @@
 -- Which refusal the replay of a capture gives, by the order in which it looks, and that a refusal changes nothing.
 -- Assumes nothing.
-use Prim.Native.Nat.{ℕ, zero, suc, ◌*◌}
 use mathlib.Core.Path.{◌≡◌, refl, sym, ap, ◌∙◌}
 use mathlib.Core.Logic.{◌≢◌}
-use mathlib.Core.Bool.{Bool, true, false, cond, ◌||◌}
-use mathlib.Core.List.{List, [], ◌∷◌}
+use mathlib.Core.Bool.{Bool, true, false, cond}
 use native.Mathlib.Decide.{ℕ_discrete}
-use native.Mathlib.Omega.{arith}
-use lib.Dec.{ltb, eqb}
+use lib.Dec.{eqb}
 use lib.ListN.{length}
 use borrow.Author.Tests.{eq-eqb, ne_eqb}
 use Rattle.input.specs.declared.Refusal.{Refusal}
-use Rattle.input.specs.Limits.{report_words}
 use Rattle.input.specs.Classes.{Table, tree_of}
 use Rattle.input.specs.Events.{Events, count}
 use Rattle.input.specs.Refusals.{Room, nothing, given, or_else, first, first_below, rows_refused, events_refused, room_refused, table_refused}
-use Rattle.rules.specs.Outcome.{Lent, Outcome, room_of, refusing, outcome}
+use Rattle.rules.specs.Outcome.{Lent, room_of, refusing, outcome}
 use Rattle.rules.specs.Refused.{event_refused, refused}
 use Rattle.laws.proofs.Tree.Trees.{or_none}
 use Rattle.tables.proofs.Firsts.{or_else_first, or_else_second}

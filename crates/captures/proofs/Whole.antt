@@ -1,28 +1,29 @@
 -- The replay of a capture as a whole: what is refused before its packets are replayed, and what their replay comes to.
 -- Assumes nothing.
-use Prim.Native.Nat.{ℕ, zero, suc, ◌+◌, ◌*◌, ◌/◌, ◌^◌, ◌≤◌, ◌<◌}
+use Prim.Native.Nat.{ℕ, zero, suc, ◌+◌, ◌*◌, ◌^◌, ◌≤◌, ◌<◌}
 use mathlib.Core.Path.{◌≡◌, refl, sym, ap, ◌∙◌, subst}
 use mathlib.Core.Logic.{◌≢◌}
-use mathlib.Core.Bool.{Bool, true, false, cond, ◌||◌}
-use mathlib.Core.List.{List, [], ◌∷◌}
+use mathlib.Core.Bool.{Bool, true, false, cond}
+use Rattle.std.specs.Prelude.{Ok, Err}
+use mathlib.Core.List.{List}
 use mathlib.Mathlib.Data.Bool.Basic.{or-eq-false-eq-eq-false-and-eq-false as or-is-false}
-use native.Mathlib.Decide.{ℕ_discrete, dec_lt}
+use native.Mathlib.Decide.{dec_lt}
 use native.Mathlib.Nat.{div-add-mod}
 use native.Mathlib.Omega.{arith}
 use lib.Dec.{ltb, eqb}
-use lib.ListN.{length, get_or, take, drop, get_or-eq_default, length-take, replicate, length-replicate}
+use lib.ListN.{length, get_or, take, drop, get_or-eq_default, length-take}
 use lib.Seq.{take_at, get_or-take}
-use lib.IntN.{ℤ}
-use borrow.Author.Tests.{eq-eqb, ne_eqb, ltb-false}
+use borrow.Author.Tests.{ltb-false}
+
 use Rattle.input.specs.declared.Refusal.{Refusal}
 use Rattle.input.specs.declared.Answer.{Answer}
 use Rattle.input.specs.Classes.{Table, tree_of}
 use Rattle.input.specs.Events.{Events, count}
 use Rattle.input.specs.Refusals.{Room, or_else}
 use Rattle.input.specs.Lent.{events_of, room_with}
-use Rattle.rules.specs.Outcome.{Outcome, over, room_of, refusing, outcome}
+use Rattle.rules.specs.Outcome.{Outcome, over, room_of, refusing}
 use Rattle.laws.proofs.Tree.Trees.{given_none}
-use Rattle.tables.proofs.Firsts.{or_else_first}
+use Rattle.tables.proofs.Firsts.{or_else_first, or_else_second}
 use Rattle.checks.specs.Counted.{SlicesOf, lengths_refused}
 use Rattle.checks.proofs.Whole.{whole_listed}
 use Rattle.engine.specs.Run.{left_of}
@@ -30,13 +31,12 @@ use Rattle.forms.specs.Outcomes.{answer_of}
 use Rattle.pcap.specs.declared.Sorting.{Sorting}
 use Rattle.pcap.specs.Records.{ended, records_below, most_records, record_count}
 use Rattle.pcap.specs.Faults.{capture_refused}
-use Rattle.pcap.specs.Lists.{Stamped, Arrivals, arrivals_with, packets, stamp_of, list_of}
-use Rattle.pcap.specs.Outcomes.{CaptureLent, CaptureLeft, arrivals_of, captured_list, run_lent, list_refused, list_over, having_run, captured, Replays}
+use Rattle.pcap.specs.Lists.{Stamped, Arrivals, arrivals_with, packets, list_of}
+use Rattle.pcap.specs.Outcomes.{CaptureLent, CaptureLeft, arrivals_of, captured_list, run_lent, list_refused, list_over, having_run, Replays}
 use Rattle.records.specs.declared.Scan.{Scan}
-use Rattle.records.specs.Scans.{Scans, scanned, scan_of}
-use Rattle.records.specs.Scans as scans
+use Rattle.records.specs.Scans.{Scans}
 use Rattle.records.specs.Reads.{Found, Reads}
-use Rattle.records.proofs.Answering.{found, refusal_found}
+use Rattle.records.proofs.Answering.{found}
 use Rattle.records.proofs.Turns.{stamps_long, classes_long, lengths_long}
 use Rattle.captures.specs.Lent.{capture_left, lent_with}
 use Rattle.captures.specs.Replayed.{Replayed}
@@ -59,25 +59,21 @@ count_most : (capture : List ℕ) → 16 * record_count capture ≤ length captu
 unfolding record_count
 count_most capture = omega (arith, below_most capture (most_records capture), div-add-mod (length capture) 16)
 
-pub scan_most : (capture : List ℕ) (rate : ℕ) (scan : Scan) → Scans capture rate scan → 16 * scan.records ≤ length capture
-unfolding scanned scan_of scans.accepting scans.refusing
-scan_most capture rate scan is = rw is (go (eqb (capture_refused capture rate).number 0))
-  where
-    go : (b : Bool) → 16 * (cond {A = Scan} b (scans.accepting capture (capture_refused capture rate)) (scans.refusing (capture_refused capture rate))).records ≤ length capture
-    go true = count_most capture
-    go false = omega arith
+pub scan_most : (capture : List ℕ) (rate : ℕ) (scan : Scan) → Scans capture rate (Ok scan) → 16 * scan.records ≤ length capture
+scan_most capture rate scan is = omega (arith, count_most capture, ap (λ (s : Scan). s.records) is.1)
 
 -- ── what is refused before the packets are replayed ──
 
--- some list of so many events
-any_list : (n : ℕ) → (events : Events) × (count events ≡ n) × (length events.lengths ≡ n)
-any_list n = (events_of (replicate n 0) (replicate n 0), length-replicate n 0, length-replicate n 0)
+-- the capture's own refusal comes first
+pub own_refused : (lent : CaptureLent) (r : Refusal) → Scans lent.capture lent.rate (Err r) → (given_answer : Answer) → given_answer ≡ answer_of r 0
+    → Replays lent (capture_left lent.list (left_of given_answer lent.order lent.report lent.lags lent.working))
+unfolding refusing run_lent
+own_refused lent r is given_answer answer_is =
+    let some : r.number ≢ 0 = λ none. is.0 (ap (λ (x : Refusal). x.number) (sym is.1) ∙ none) in
+    let first = or_else_first (capture_refused lent.capture lent.rate) _ is.0 in
+    rw answer_is (sym (captured_refused lent r (found_first lent r (is.1 ∙ sym first) some) some))
 
--- a refusal of the capture's own comes before all others
-own_first : (s own rest other : Refusal) → s ≡ own → own.number ≢ 0 → or_else s rest ≡ or_else own other
-own_first s own rest other same some = rw same (or_else_first own rest some ∙ sym (or_else_first own other some))
-
-module _ (lent : CaptureLent) (scan : Scan) (is : Scans lent.capture lent.rate scan) where
+module _ (lent : CaptureLent) (scan : Scan) (is : Scans lent.capture lent.rate (Ok scan)) where
   abbrev list : Events
   list = captured_list lent
 
@@ -87,32 +83,29 @@ module _ (lent : CaptureLent) (scan : Scan) (is : Scans lent.capture lent.rate s
   abbrev own : Refusal
   own = capture_refused lent.capture lent.rate
 
-  own_is : scan.refusal ≡ own
-  own_is = refusal_found lent.capture lent.rate scan is
-
   -- what the first look says of any lists of as many words
   abbrev First : Refusal → Type 0
   First r =
       (table : Table) (events : Events)
       → SlicesOf table events (length lent.table.identifiers) (length lent.table.parent_identifiers) (length lent.table.shares) (2 * scan.records) (2 * scan.records)
-      → r ≡ or_else scan.refusal (or_else (lengths_refused table events room) (list_refused (2 * scan.records) (length lent.list.classes) (length lent.list.lengths)))
+      → r ≡ or_else (lengths_refused table events room) (list_refused (2 * scan.records) (length lent.list.classes) (length lent.list.lengths))
 
-  found_all : own.number ≡ 0 → Found lent.capture scan.layout scan.records
-  found_all none = found lent.capture lent.rate scan is (rw own_is none)
+  pub found_here : Found lent.capture scan.layout scan.records
+  found_here = found lent.capture lent.rate scan is
 
   pub arrivals_long : packets (arrivals_of lent.capture lent.sorting) ≡ record_count lent.capture
   unfolding arrivals_of
   arrivals_long = stamps_long lent.capture lent.sorting (record_count lent.capture)
 
-  count_is : own.number ≡ 0 → count list ≡ 2 * scan.records
+  count_is : count list ≡ 2 * scan.records
   unfolding captured_list
-  count_is none =
-      omega (arith, list_count (tree_of lent.table) (arrivals_of lent.capture lent.sorting) lent.rate, arrivals_long, (found_all none).counted)
+  count_is =
+      omega (arith, list_count (tree_of lent.table) (arrivals_of lent.capture lent.sorting) lent.rate, arrivals_long, found_here.counted)
 
-  even_is : own.number ≡ 0 → length list.lengths ≡ 2 * scan.records
+  even_is : length list.lengths ≡ 2 * scan.records
   unfolding captured_list
-  even_is none =
-      omega (arith, list_even (tree_of lent.table) (arrivals_of lent.capture lent.sorting) lent.rate, arrivals_long, (found_all none).counted)
+  even_is =
+      omega (arith, list_even (tree_of lent.table) (arrivals_of lent.capture lent.sorting) lent.rate, arrivals_long, found_here.counted)
 
   room_is : room_of (run_lent lent list) ≡ room
   unfolding room_of run_lent
@@ -121,17 +114,9 @@ module _ (lent : CaptureLent) (scan : Scan) (is : Scans lent.capture lent.rate s
   -- it is the replay's, of the list that the capture makes
   first_is : (r : Refusal) → First r
       → r ≡ or_else own (or_else (lengths_refused lent.table list (room_of (run_lent lent list))) (list_refused (count list) (length lent.list.classes) (length lent.list.lengths)))
-  first_is r look = go (ℕ_discrete own.number 0)
-    where
-      go : Dec (own.number ≡ 0)
-          → r ≡ or_else own (or_else (lengths_refused lent.table list (room_of (run_lent lent list))) (list_refused (count list) (length lent.list.classes) (length lent.list.lengths)))
-      go (yes none) =
-          look lent.table list (record { rows_are = refl; parents_are = refl; shares_are = refl; events_are = count_is none; lengths_are = even_is none })
-          ∙ rw (own_is, room_is, count_is none)
-      go (no some) =
-          let any = any_list (2 * scan.records) in
-          look lent.table any.0 (record { rows_are = refl; parents_are = refl; shares_are = refl; events_are = any.1; lengths_are = any.2 })
-          ∙ own_first scan.refusal own _ _ own_is some
+  first_is r look =
+      look lent.table list (record { rows_are = refl; parents_are = refl; shares_are = refl; events_are = count_is; lengths_are = even_is })
+      ∙ rw (room_is, count_is) (sym (or_else_second own _ is.0))
 
   -- refused: nothing is changed
   pub refused_captured : (r : Refusal) → First r → r.number ≢ 0 → (given_answer : Answer) → given_answer ≡ answer_of r 0
@@ -146,9 +131,6 @@ module _ (lent : CaptureLent) (scan : Scan) (is : Scans lent.capture lent.rate s
         × ((list_refused (count list) (length lent.list.classes) (length lent.list.lengths)).number ≡ 0)
     passed = none_first lent r (first_is r look) none
 
-    pub found_here : Found lent.capture scan.layout scan.records
-    found_here = found_all passed.0
-
     pub lengths_pass : (lengths_refused lent.table list room).number ≡ 0
     lengths_pass = rw room_is at passed.1
 
@@ -156,7 +138,7 @@ module _ (lent : CaptureLent) (scan : Scan) (is : Scans lent.capture lent.rate s
     unfolding list_refused
     room_for =
         let tests = (or-is-false (ltb (length lent.list.classes) (count list)) (ltb (length lent.list.lengths) (count list))).0 (given_none _ _ _ passed.2) in
-        let size = count_is passed.0 in
+        let size = count_is in
         (omega (arith, size, ltb-false (length lent.list.classes) (count list) tests.0), omega (arith, size, ltb-false (length lent.list.lengths) (count list) tests.1))
 
     pub classes_room : 2 * scan.records ≤ length lent.list.classes
@@ -208,14 +190,14 @@ module _ (capture : List ℕ) (sorting : Sorting) (lent left : Arrivals) (reads 
 
 -- ── the packets' replay ──
 
-module _ (lent : CaptureLent) (scan : Scan) (is : Scans lent.capture lent.rate scan) (r : Refusal) (look : First lent scan is r) (none : r.number ≡ 0) where
+module _ (lent : CaptureLent) (scan : Scan) (is : Scans lent.capture lent.rate (Ok scan)) (r : Refusal) (look : First lent scan is r) (none : r.number ≡ 0) where
   pub few_records : scan.records ≤ 32768
   few_records =
       let fine = lengths_pass lent scan is r look none in
       omega (arith, (whole_listed lent.table (captured_list lent) (room lent scan is) fine).few, counted_here)
     where
       counted_here : count (captured_list lent) ≡ 2 * scan.records
-      counted_here = count_is lent scan is (passed lent scan is r look none).0
+      counted_here = count_is lent scan is
 
   module _ (before left : Arrivals) (reads : Reads lent.capture lent.sorting before left) where
     abbrev arrivals : Arrivals
@@ -225,7 +207,7 @@ module _ (lent : CaptureLent) (scan : Scan) (is : Scans lent.capture lent.rate s
     unfolding captured_list
     same_list =
         ap (λ (a : Arrivals). list_of (tree_of lent.table) a lent.rate)
-        (arrivals_read lent.capture lent.sorting before left reads scan.records (found_here lent scan is r look none).counted)
+        (arrivals_read lent.capture lent.sorting before left reads scan.records (found_here lent scan is).counted)
 
     pub packets_pass : (lengths_refused lent.table (list_of (tree_of lent.table) arrivals lent.rate) (room lent scan is)).number ≡ 0
     packets_pass = rw same_list (lengths_pass lent scan is r look none)

@@ -1,6 +1,5 @@
 -- What replaying packets leaves that arrive at given moments: the run of their list, and the list itself where it is done.
 use Rattle.std.specs.Prelude.{ℕ, ◌≡◌, cond, List, eqb}
-use Rattle.input.specs.Events.{Events}
 use Rattle.rules.specs.Outcome.{Lent, Outcome, over, outcome}
 
 -- of a list that is run: these slices were lent for it, and these are left

@@ -19,7 +19,6 @@ ghost use Rattle.captures.specs.Replayed.{Replayed};
 use choosing::Way;
 use input::{Answer, MOST_EVENTS, Refusal};
 use pcap::Sorting;
-use records::Scan;
 
 // Records of the longest capture that is replayed: each makes two events.
 pub const MOST_RECORDS: usize = MOST_EVENTS / 2;
@@ -49,9 +48,9 @@ fn list_refused(events: usize, classes: usize, lengths: usize) -> Refusal
     tables::none()
 }
 
-// What is looked for before the table: the capture's own, then 1, 2 and 3, of slices of so many words.
+// What is looked for before the table where the capture has so many records: 1, 2 and 3, of slices of so many words.
 fn first_refused(
-    scan: Scan,
+    records: usize,
     rows: usize,
     parents: usize,
     shares: usize,
@@ -62,17 +61,15 @@ fn first_refused(
     lags: usize,
     working: usize,
 ) -> Refusal
-    requires { (rows < 2 ^ 61) × (scan.records < 2 ^ 61) }
-    ensures { (table : Table) (list : Events) → SlicesOf table list rows parents shares (2 * scan.records) (2 * scan.records)
-        → result ≡ or_else scan.refusal (or_else (lengths_refused table list (room_with order report lags working)) (outcomes.list_refused (2 * scan.records) classes lengths)) }
+    requires { (rows < 2 ^ 61) × (records < 2 ^ 61) }
+    ensures { (table : Table) (list : Events) → SlicesOf table list rows parents shares (2 * records) (2 * records)
+        → result ≡ or_else (lengths_refused table list (room_with order report lags working)) (outcomes.list_refused (2 * records) classes lengths) }
 {
-    let events = 2 * scan.records;
+    let events = 2 * records;
     let unfit = checks::check_counts(
         rows, parents, shares, events, events, order, report, lags, working,
     );
-    let short = list_refused(events, classes, lengths);
-    let refusal = scan.refusal;
-    tables::or_else(refusal, tables::or_else(unfit, short))
+    tables::or_else(unfit, list_refused(events, classes, lengths))
 }
 
 // A list that was made, run; where that is done it is copied.
@@ -228,11 +225,12 @@ pub fn replay(
         (events_of classes.old lengths.old) order.old report.old lags.old working.old)
         (capture_left (events_of classes.new lengths.new) (left_of result order.new report.new lags.new working.new)) }
 {
-    let scan = records::check(capture, rate);
-    let records = scan.records;
-    let layout = scan.layout;
+    let scan = match records::check(capture, rate) {
+        Ok(scan) => scan,
+        Err(refusal) => return refused(refusal),
+    };
     let refusal = first_refused(
-        scan,
+        scan.records,
         identifiers.len(),
         parent_identifiers.len(),
         shares.len(),
@@ -251,18 +249,18 @@ pub fn replay(
     let mut packet_lengths = no_packets();
     records::read(
         capture,
-        layout,
+        scan.layout,
         sorting,
-        records,
+        scan.records,
         &mut stamps,
         &mut packet_classes,
         &mut packet_lengths,
     );
     replay_packets(
         way,
-        &stamps[..records],
-        &packet_classes[..records],
-        &packet_lengths[..records],
+        &stamps[..scan.records],
+        &packet_classes[..scan.records],
+        &packet_lengths[..scan.records],
         rate,
         identifiers,
         parent_identifiers,

@@ -2,38 +2,47 @@
 // number, place and second place.
 #![tactic(auto)]
 
+ghost use Rattle.std.specs.Prelude.{◌<◌};
+
+use arrays::TreeArrays;
+use checks::ResultRoom;
 use input::{Event, Refusal};
 use tables::Reading;
 
 // Room for the lists of the largest question: 257 rows, 65,537 events, and four lengths.
 const WORDS: usize = 131849;
 
-// How far a line is read: what it asks, its first byte (0 before that); whether its label has begun, and its lists; which list is
-// read, how many words all lists have so far, and where each list that is read ends; and the number that is read, with the byte
-// that says what it is for (0 where there is none).
+// How far a line is read: nothing, in a line that asks nothing, behind the question's letter, in its label, or in its lists.
 #[derive(Clone, Copy)]
-struct State {
-    question: u8,
-    labelled: bool,
-    listing: bool,
-    list: usize,
-    at: usize,
-    ends: [usize; 7],
-    way: u8,
-    number: u64,
+enum Stage {
+    Begins,
+    Comment,
+    Asks,
+    Label,
+    Lists,
 }
 
-fn fresh(question: u8) -> State {
-    State {
-        question,
-        labelled: false,
-        listing: false,
-        list: 0,
-        at: 0,
-        ends: [0usize; 7],
-        way: 0,
-        number: 0,
-    }
+// What a number is for: it is a word itself; the last word, or the last two in turn, come again for so many words; or the last counts on.
+#[derive(Clone, Copy)]
+enum Way {
+    Itself,
+    Again,
+    InTurn,
+    CountsOn,
+}
+
+// A line as far as it is read: its letter; the words of its lists one after the other, where each list that is read ends, and how many
+// there are of these; and the number that is read.
+#[derive(Drop)]
+struct Question {
+    stage: Stage,
+    letter: u8,
+    words: [u32; WORDS],
+    used: usize,
+    ends: [usize; 7],
+    lists: usize,
+    way: Option<Way>,
+    number: u64,
 }
 
 // ── answers ──
@@ -47,121 +56,32 @@ fn end_line() {
     io::write_all(1, b"\n");
 }
 
-fn print(r: Refusal) {
-    number(r.number);
-    number(r.place);
-    number(r.second);
+// A refusal's number, place and second place; where nothing is refused, zeros.
+fn print(refusal: Option<Refusal>) {
+    let (of, place, second) = match refusal {
+        Some(refusal) => (refusal.number, refusal.place, refusal.second),
+        None => (0, 0, 0),
+    };
+    number(of);
+    number(place);
+    number(second);
     end_line();
 }
 
-// One of the lists; empty where the line does not have it.
-fn part(words: &[u32], from: usize, to: usize) -> &[u32] {
-    if to < from {
-        return &words[..0];
-    }
-    if words.len() < to {
-        return &words[..0];
-    }
-    &words[from..to]
-}
-
-// The check of a whole input, or of its lengths alone.
-fn checked(
-    identifiers: &[u32],
-    parents: &[u32],
-    shares: &[u32],
-    classes: &[u32],
-    lengths: &[u32],
-    room: &[u32],
-    alone: bool,
-) -> Refusal {
-    let order = words::wide(words::word(room, 0));
-    let report = words::wide(words::word(room, 1));
-    let lags = words::wide(words::word(room, 2));
-    let working = words::wide(words::word(room, 3));
-    if alone {
-        return checks::check_lengths(
-            identifiers,
-            parents,
-            shares,
-            classes,
-            lengths,
-            order,
-            report,
-            lags,
-            working,
-        );
-    }
-    let check = checks::check(
-        identifiers,
-        parents,
-        shares,
-        classes,
-        lengths,
-        order,
-        report,
-        lags,
-        working,
-    );
-    let reading = check.reading;
-    reading.refusal
-}
-
-fn ask_check(words: &[u32], ends: [usize; 7], alone: bool) {
-    print(checked(
-        part(words, 0, ends[1]),
-        part(words, ends[1], ends[2]),
-        part(words, ends[2], ends[3]),
-        part(words, ends[3], ends[4]),
-        part(words, ends[4], ends[5]),
-        part(words, ends[5], ends[6]),
-        alone,
-    ));
-}
-
-fn print_row(reading: Reading, r: usize) {
+// What was read of a row; zeros where the table is refused.
+fn print_row(read: Option<Reading>, r: usize) {
     if r < input::MOST_ROWS {
-        let parents = reading.parents;
-        let depths = reading.depths;
-        let shares = reading.shares;
-        let senders = reading.senders;
+        let tree = read.map_or(TreeArrays::zeros(), |reading| reading.tree);
         io::write_all(1, b"row");
         number(r as u32);
-        number(parents[r]);
-        number(depths[r]);
-        number(shares[r]);
-        if senders[r] {
+        number(tree.parents[r]);
+        number(tree.depths[r]);
+        number(tree.shares[r]);
+        if read.is_some_and(|reading| reading.senders[r]) {
             io::write_all(1, b" sends");
         }
         end_line();
     }
-}
-
-// The rows that the question names.
-fn print_rows(reading: Reading, rows: &[u32]) {
-    let mut i = 0;
-    while i < rows.len() {
-        print_row(reading, words::wide(rows[i]));
-        i += 1;
-    }
-}
-
-fn ask_table(words: &[u32], ends: [usize; 7]) {
-    let identifiers = part(words, 0, ends[1]);
-    let parents = part(words, ends[1], ends[2]);
-    let shares = part(words, ends[2], ends[3]);
-    let reading = tables::read_table(identifiers, parents, shares);
-    print(reading.refusal);
-    print_rows(reading, part(words, ends[3], ends[4]));
-}
-
-fn ask_row(words: &[u32], ends: [usize; 7], class: u32) {
-    io::write_all(1, b" ");
-    io::print_decimal(
-        1,
-        tables::row_of(part(words, ends[1], ends[2]), class) as u64,
-    );
-    end_line();
 }
 
 fn ask_event(class: u32, length: u32) {
@@ -178,169 +98,208 @@ fn ask_event(class: u32, length: u32) {
     end_line();
 }
 
-fn ask(words: &[u32; WORDS], ends: [usize; 7], question: u8) {
-    match question {
-        b'c' => ask_check(words, ends, false),
-        b'l' => ask_check(words, ends, true),
-        b't' => ask_table(words, ends),
-        b'r' => ask_row(words, ends, words[0]),
-        b'e' => ask_event(words[0], words[1]),
-        _ => {}
+impl Question {
+    // One of the lists; empty where the line does not have it.
+    fn list(&self, list: usize) -> &[u32]
+        requires { list < 6 }
+    {
+        self.words
+            .get(self.ends[list]..self.ends[list + 1])
+            .unwrap_or(&[])
     }
-}
 
-// ── questions ──
+    // One of the four lengths of the last list.
+    fn length(&self, place: u32) -> usize {
+        words::wide(words::word(self.list(5), place))
+    }
 
-// One word more; the place after it.
-fn pushed(words: &mut [u32; WORDS], at: usize, n: u32) -> usize {
-    if at < WORDS {
-        words[at] = n;
-        return at + 1;
+    fn room(&self) -> ResultRoom {
+        ResultRoom {
+            order: self.length(0),
+            report: self.length(1),
+            lags: self.length(2),
+            working: self.length(3),
+        }
     }
-    at
-}
 
-// So much more than the word that stands so many places back.
-fn again(words: &[u32; WORDS], at: usize, back: usize, more: u32) -> u32 {
-    if at < back {
-        return 0;
+    // The check of a whole input.
+    fn ask_check(&self) {
+        let check = checks::check(
+            self.list(0),
+            self.list(1),
+            self.list(2),
+            self.list(3),
+            self.list(4),
+            self.room(),
+        );
+        print(check.err());
     }
-    if WORDS <= at - back {
-        return 0;
-    }
-    std::num::wrapping_add_u32(words[at - back], more)
-}
 
-fn repeated(words: &mut [u32; WORDS], from: usize, times: u64, back: usize, more: u32) -> usize {
-    let mut at = from;
-    let mut left = times;
-    while left > 0 {
-        let n = again(words, at, back, more);
-        at = pushed(words, at, n);
-        left -= 1;
+    // The check of its lengths alone.
+    fn ask_lengths(&self) {
+        let check = checks::check_lengths(
+            self.list(0),
+            self.list(1),
+            self.list(2),
+            self.list(3),
+            self.list(4),
+            self.room(),
+        );
+        print(check.err());
     }
-    at
-}
 
-fn narrow(n: u64) -> u32 {
-    if n > 4294967295 {
-        return 4294967295;
+    fn ask_table(&self) {
+        let read = tables::read_table(self.list(0), self.list(1), self.list(2));
+        print(read.err());
+        for row in self.list(3) {
+            print_row(read.ok(), words::wide(*row));
+        }
     }
-    n as u32
-}
 
-// The words that a number stands for, by the byte before it; '0' is a word itself. Gives the place after them.
-fn taken(words: &mut [u32; WORDS], at: usize, way: u8, n: u64) -> usize {
-    match way {
-        b'0' => pushed(words, at, narrow(n)),
-        b'*' => repeated(words, at, n, 1, 0),
-        b'%' => repeated(words, at, n, 2, 0),
-        b'>' => repeated(words, at, n, 1, 1),
-        _ => at,
+    // The place after the last row where no row has the class.
+    fn ask_row(&self, class: u32) {
+        let identifiers = self.list(1);
+        let row = tables::row_of(identifiers, class).unwrap_or(identifiers.len());
+        io::write_all(1, b" ");
+        io::print_decimal(1, row as u64);
+        end_line();
     }
-}
 
-fn with_digit(n: u64, byte: u8) -> u64 {
-    if n > 4294967295 {
-        return n;
+    fn ask(&self) {
+        match self.letter {
+            b'c' => self.ask_check(),
+            b'l' => self.ask_lengths(),
+            b't' => self.ask_table(),
+            b'r' => self.ask_row(self.words[0]),
+            b'e' => ask_event(self.words[0], self.words[1]),
+            _ => {}
+        }
     }
-    if byte < b'0' {
-        return n;
+
+    // ── questions ──
+
+    fn begin(&mut self) {
+        self.stage = Stage::Begins;
+        self.used = 0;
+        self.ends = [0; 7];
+        self.lists = 0;
+        self.way = None;
+        self.number = 0;
     }
-    n * 10 + (byte - b'0') as u64
+
+    // One word more.
+    fn push(&mut self, n: u32) {
+        if self.used < WORDS {
+            self.words[self.used] = n;
+            self.used += 1;
+        }
+    }
+
+    // So much more than the word that stands so many places back.
+    fn again(&self, back: usize, more: u32) -> u32 {
+        match self.used.checked_sub(back) {
+            Some(place) if place < WORDS => self.words[place].wrapping_add(more),
+            _ => 0,
+        }
+    }
+
+    fn repeat(&mut self, times: u64, back: usize, more: u32) {
+        for _ in 0..times {
+            self.push(self.again(back, more));
+        }
+    }
+
+    // The words that the number stands for.
+    fn take(&mut self) {
+        match self.way {
+            None => {}
+            Some(Way::Itself) => self.push(u32::try_from(self.number).unwrap_or(u32::MAX)),
+            Some(Way::Again) => self.repeat(self.number, 1, 0),
+            Some(Way::InTurn) => self.repeat(self.number, 2, 0),
+            Some(Way::CountsOn) => self.repeat(self.number, 1, 1),
+        }
+    }
+
+    fn digit(&mut self, digit: u8) {
+        if self.way.is_none() {
+            self.way = Some(Way::Itself);
+        }
+        if self.number <= u32::MAX as u64 {
+            self.number = self.number * 10 + digit as u64;
+        }
+    }
+
+    // A byte of the lists that is no digit.
+    fn mark(&mut self, byte: u8) {
+        self.take();
+        self.number = 0;
+        self.way = way_of(byte);
+        match byte {
+            b'|' => self.end_list(),
+            b'\n' => {
+                self.end_list();
+                self.ask();
+                self.begin();
+            }
+            _ => {}
+        }
+    }
+
+    // The list that is read ends here.
+    fn end_list(&mut self) {
+        if self.lists < 6 {
+            self.lists += 1;
+            self.ends[self.lists] = self.used;
+        }
+    }
+
+    // The first byte of a line; a 0 is passed over.
+    fn ask_by(&mut self, byte: u8) {
+        self.letter = byte;
+        self.stage = match byte {
+            0 => Stage::Begins,
+            b'#' => Stage::Comment,
+            _ => Stage::Asks,
+        };
+    }
+
+    // A byte of the label; the first stands between the question and it.
+    fn label(&mut self, byte: u8, begun: bool) {
+        if byte == b'=' {
+            self.stage = Stage::Lists;
+            return;
+        }
+        if begun {
+            io::write_all(1, &[byte]);
+        }
+        self.stage = Stage::Label;
+    }
+
+    fn step(&mut self, byte: u8) {
+        match self.stage {
+            Stage::Begins => self.ask_by(byte),
+            Stage::Comment => {
+                if byte == b'\n' {
+                    self.begin();
+                }
+            }
+            Stage::Asks => self.label(byte, false),
+            Stage::Label => self.label(byte, true),
+            Stage::Lists => match byte {
+                b'0'..=b'9' => self.digit(byte - b'0'),
+                _ => self.mark(byte),
+            },
+        }
+    }
 }
 
 // What the number after this byte is for.
-fn way_of(byte: u8) -> u8 {
+fn way_of(byte: u8) -> Option<Way> {
     match byte {
-        b'*' | b'%' | b'>' => byte,
-        _ => 0,
-    }
-}
-
-// The list that is read ends here.
-fn ended(s: State) -> State {
-    let mut next = s;
-    let list = s.list;
-    if list < 6 {
-        next.list = list + 1;
-        next.ends[list + 1] = s.at;
-    }
-    next
-}
-
-fn digit_read(s: State, byte: u8) -> State {
-    let mut next = s;
-    if s.way == 0 {
-        next.way = b'0';
-    }
-    next.number = with_digit(s.number, byte);
-    next
-}
-
-// A byte of the lists that is no digit.
-fn mark_read(words: &mut [u32; WORDS], s: State, byte: u8) -> State {
-    let mut next = s;
-    next.at = taken(words, s.at, s.way, s.number);
-    next.number = 0;
-    next.way = way_of(byte);
-    if byte == b'|' {
-        return ended(next);
-    }
-    if byte == b'\n' {
-        let last = ended(next);
-        let ends = last.ends;
-        ask(words, ends, last.question);
-        return fresh(0);
-    }
-    next
-}
-
-// A byte of the label; the first stands between the question and it.
-fn label_read(s: State, byte: u8) -> State {
-    let mut next = s;
-    if byte == b'=' {
-        next.listing = true;
-        return next;
-    }
-    if s.labelled {
-        let one = [byte];
-        io::write_all(1, &one);
-    }
-    next.labelled = true;
-    next
-}
-
-// A line that asks nothing.
-fn comment_read(s: State, byte: u8) -> State {
-    if byte == b'\n' {
-        return fresh(0);
-    }
-    s
-}
-
-fn step(words: &mut [u32; WORDS], s: State, byte: u8) -> State {
-    if s.question == 0 {
-        return fresh(byte);
-    }
-    if s.question == b'#' {
-        return comment_read(s, byte);
-    }
-    if !s.listing {
-        return label_read(s, byte);
-    }
-    match byte {
-        b'0'..=b'9' => digit_read(s, byte),
-        _ => mark_read(words, s, byte),
-    }
-}
-
-fn answer(words: &mut [u32; WORDS], text: &[u8]) {
-    let mut s = fresh(0);
-    let mut i = 0;
-    while i < text.len() {
-        s = step(words, s, text[i]);
-        i += 1;
+        b'*' => Some(Way::Again),
+        b'%' => Some(Way::InTurn),
+        b'>' => Some(Way::CountsOn),
+        _ => None,
     }
 }
 
@@ -348,6 +307,17 @@ fn answer(words: &mut [u32; WORDS], text: &[u8]) {
 fn main() {
     let mut text = io::large_buffer();
     let n = io::read_full(0, &mut text);
-    let mut words = [0u32; WORDS];
-    answer(&mut words, &text[..n]);
+    let mut question = Question {
+        stage: Stage::Begins,
+        letter: 0,
+        words: [0; WORDS],
+        used: 0,
+        ends: [0; 7],
+        lists: 0,
+        way: None,
+        number: 0,
+    };
+    for byte in &text[..n] {
+        question.step(*byte);
+    }
 }

@@ -23,6 +23,7 @@ pub use finding::Finding;
 
 // Where the next packet of row r starts: at its finish if its last packet has just finished, else not before its parent's
 // virtual time.
+#[tactic(auto, unfolding(rules::specs::Steps::next_start))]
 fn next_start(tree: &TreeArrays, rows: &RowArrays, why: Why, r: usize) -> u64
     requires r_lt_most_rows { r < most_rows }
     requires inside { Inside tree.now.parents }
@@ -35,6 +36,7 @@ fn next_start(tree: &TreeArrays, rows: &RowArrays, why: Why, r: usize) -> u64
 }
 
 // Row r, which is not the root, gets a head and is charged for it.
+#[tactic(auto, using(looking::proofs::Parts::next_start_part), unfolding(rules::specs::Steps::new_head, rules::specs::Steps::charged, rules::specs::Steps::with_head))]
 pub fn new_head(
     tree: &TreeArrays,
     rows: &mut RowArrays,
@@ -58,6 +60,7 @@ pub fn new_head(
 }
 
 // Row p, whose virtual time is raised to v, takes its child k: k's head is p's too, and p's virtual time passes over it.
+#[tactic(auto, unfolding(rules::specs::Steps::takes, rules::specs::Steps::with_virtual, rules::specs::Steps::with_head))]
 fn takes(tree: &TreeArrays, rows: &mut RowArrays, why: Why, p: usize, k: usize, v: u64)
     requires p_lt_most_rows { p < most_rows }
     requires k_lt_most_rows { k < most_rows }

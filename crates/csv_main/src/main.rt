@@ -2,43 +2,35 @@
 // number, place, second place and count of each answer, and what was written after it.
 #![tactic(auto)]
 
-use input::Answer;
+use input::{MOST_ROWS, Refusal};
 
 // As many bytes as the longest table that is accepted has.
 const TABLE_BYTES: usize = 4371;
 
-fn number(n: u32) {
-    io::print_decimal(1, n as u64);
-    io::write_all(1, b" ");
-}
-
-fn print(answer: Answer) {
-    number(answer.number);
-    number(answer.place);
-    number(answer.second);
-    number(answer.count);
+fn print(answer: Result<u32, Refusal>) {
+    let numbers = match answer {
+        Ok(count) => [0, 0, 0, count],
+        Err(refusal) => [refusal.number, refusal.place, refusal.second, 0],
+    };
+    for number in numbers {
+        io::print_decimal(1, number as u64);
+        io::write_all(1, b" ");
+    }
     io::write_all(1, b"\n");
 }
 
-// The first words, or all where there are no more.
-fn words_of(words: &[u32], n: u32) -> &[u32] {
-    let count = n as usize;
-    if count < words.len() {
-        return &words[..count];
-    }
-    words
+// The first items, or all where there are no more.
+fn first<T>(items: &[T], count: u32) -> &[T] {
+    &items[..items.len().min(count as usize)]
 }
 
 // What an answer says was written.
-fn print_written(answer: Answer, text: &[u8]) {
+fn print_written(answer: Result<u32, Refusal>, text: &[u8]) {
     print(answer);
-    let count = answer.count as usize;
-    if count <= text.len() {
-        io::write_all(1, &text[..count]);
-    }
+    io::write_all(1, first(text, answer.unwrap_or(0)));
 }
 
-fn write<'a>(identifiers: &'a [u32], parents: &'a [u32], shares: &'a [u32]) {
+fn write(identifiers: &[u32], parents: &[u32], shares: &[u32]) {
     let mut text = [0u8; TABLE_BYTES];
     let written = csv_text::write_table(identifiers, parents, shares, &mut text);
     print_written(written, &text);
@@ -72,15 +64,13 @@ fn report(identifiers: &[u32]) {
 fn main() {
     let mut text = [0u8; TABLE_BYTES];
     let size = io::read_full(0, &mut text);
-    let mut identifiers = [0u32; 256];
-    let mut parents = [0u32; 256];
-    let mut shares = [0u32; 256];
+    let mut identifiers = [0u32; MOST_ROWS];
+    let mut parents = [0u32; MOST_ROWS];
+    let mut shares = [0u32; MOST_ROWS];
     let read = csv_text::read_table(&text, size, &mut identifiers, &mut parents, &mut shares);
     print(read);
-    write(
-        words_of(&identifiers, read.count),
-        words_of(&parents, read.count),
-        words_of(&shares, read.count),
-    );
-    report(words_of(&identifiers, read.count));
+    let count = read.unwrap_or(0);
+    let identifiers = first(&identifiers, count);
+    write(identifiers, first(&parents, count), first(&shares, count));
+    report(identifiers);
 }

@@ -12,20 +12,17 @@ use lib.Dec.{ltb}
 use lib.Seq.{length-take-le}
 use borrow.Author.Tests.{lt-ltb, le-ltb, eq-eqb, ne_eqb, leb-true, ltb-false}
 use Rattle.input.specs.declared.Refusal.{Refusal}
-use Rattle.input.specs.Classes.{Table, Tree, tree_of}
+use Rattle.input.specs.Classes.{Table}
 use Rattle.input.specs.Limits.{most_rows}
 use Rattle.input.specs.Refusals.{nothing, given, or_else, first, rows_refused, table_refused}
 use Rattle.laws.proofs.Tree.Trees.{given_none}
-use Rattle.tables.specs.declared.Reading.{Reading}
-use Rattle.tables.specs.Answers.{refusal_of, accepting, refusing, answer, reading}
-use Rattle.tables.proofs.Answering.{answer_accepts, answer_refuses}
-use Rattle.tables.proofs.Firsts.{Plain, or_else_first, or_else_second, table_plain}
-use Rattle.forms.specs.declared.Rows.{Rows}
+use Rattle.tables.specs.Answers.{refusal_of}
+use Rattle.tables.proofs.Firsts.{Plain, or_else_first, or_else_second, given_plain, or_else_plain, last_plain, table_plain}
 use Rattle.forms.specs.declared.Scan.{Scan}
 use Rattle.forms.specs.Faults.{read_text, scan_refused, text_refused, table_in}
 use Rattle.csv_text.specs.Kept.{Room, first_rows, unfit}
 use Rattle.forms.proofs.AnyBytes.{rows_lines}
-use Rattle.forms.specs.Outcomes.{rows_left_of, rows_found, fault_found, rows_kept, rows_read, text_fault, length_refused, table_over, fits, count_refused}
+use Rattle.forms.specs.Outcomes.{Rows, rows_left_of, rows_found, fault_found, rows_kept, rows_read, text_fault, length_refused, table_over, fits, count_refused}
 
 -- ── the fault of a text ──
 
@@ -98,6 +95,13 @@ module _ (read : Rows) (words : Table) (room : Bool) where
   unfolding unfit first
   unfit_fault some = or_else_first _ _ some
 
+  -- with number 0, nothing
+  pub unfit_plain : Plain read.fault → Plain (unfit read words room)
+  unfolding unfit first count_refused
+  unfit_plain plain =
+      or_else_plain _ _ plain (or_else_plain _ _ (given_plain _ 1 0 (omega arith))
+      (or_else_plain _ _ (given_plain _ 3 0 (omega arith)) (last_plain _ (table_plain _))))
+
   module _ (fine : read.fault.number ≡ 0) where
     pub unfit_count : (count_refused read.rows).number ≢ 0 → unfit read words room ≡ count_refused read.rows
     unfolding unfit first
@@ -140,24 +144,7 @@ rows_right words rows none i p s =
       le-ltb most_rows rows few.1,
     )
 
-accepted_refusal : (refusal : Refusal) (tree : Tree) → (accepting refusal tree).refusal ≡ refusal
-unfolding accepting
-accepted_refusal refusal tree = refl
-
-refused_refusal : (refusal : Refusal) → (refusing refusal).refusal ≡ refusal
-unfolding refusing
-refused_refusal refusal = refl
-
--- the refusal that a table's reading gives
-answered : (refusal : Refusal) (tree : Tree) → (answer refusal tree).refusal ≡ refusal
-answered refusal tree = go (ℕ_discrete refusal.number 0)
-  where
-    go : Dec (refusal.number ≡ 0) → (answer refusal tree).refusal ≡ refusal
-    go (yes none) = ap (λ (r : Reading). r.refusal) (answer_accepts refusal tree none) ∙ accepted_refusal refusal tree
-    go (no some) = ap (λ (r : Reading). r.refusal) (answer_refuses refusal tree some) ∙ refused_refusal refusal
-
-pub own_refusal : (table : Table) → rows_refused table ≡ nothing → (reading table).refusal ≡ table_refused table
-unfolding reading nothing
-own_refusal table right =
-    answered (or_else (rows_refused table) (table_refused table)) (tree_of table)
-    ∙ or_else_second (rows_refused table) (table_refused table) (ap (λ (r : Refusal). r.number) right)
+-- what refuses a table is what its reading gives
+pub own_refusal : (table : Table) → rows_refused table ≡ nothing → or_else (rows_refused table) (table_refused table) ≡ table_refused table
+unfolding nothing
+own_refusal table right = or_else_second (rows_refused table) (table_refused table) (ap (λ (r : Refusal). r.number) right)

@@ -1,6 +1,6 @@
 -- A table read whole: what was read into words of its own, and what refuses it.
 -- Assumes nothing.
-use Prim.Native.Nat.{ℕ, ◌-◌, ◌≤◌}
+use Prim.Native.Nat.{ℕ, ◌≤◌}
 use mathlib.Core.Path.{◌≡◌, refl, sym, ap, ◌∙◌}
 use mathlib.Core.Bool.{Bool, true, false, not, true≢false}
 use mathlib.Core.Logic.{◌≢◌}
@@ -17,12 +17,11 @@ use Rattle.input.specs.Refusals.{nothing, given, first, rows_refused, table_refu
 use Rattle.rules.specs.Outcome.{over}
 use Rattle.laws.proofs.Tree.Trees.{None, first_none, given_none}
 use Rattle.tables.proofs.Firsts.{or_else_first, or_else_second}
-use Rattle.forms.specs.declared.Rows.{Rows}
 use Rattle.forms.specs.Faults.{table_in}
-use Rattle.forms.specs.Outcomes.{RowsLeft, rows_left_of, table_left_of, answer_of, rows_found, fault_found, rows_read, table_read, table_left, text_fault, table_over, fits, count_refused}
+use Rattle.forms.specs.Outcomes.{Rows, RowsLeft, rows_left_of, table_left_of, answer_of, rows_found, fault_found, rows_read, table_read, table_left, text_fault, table_over, fits, count_refused}
 use Rattle.csv_text.specs.Kept.{Copyable, first_rows, unfit}
 use Rattle.forms.proofs.AnyBytes.{read_level}
-use Rattle.csv_text.proofs.Cases.{rows_faulty, rows_good, rows_fit, rows_short, few_rows, fits_lent}
+use Rattle.csv_text.proofs.Cases.{unfit_fault, unfit_plain, rows_faulty, rows_good, rows_fit, rows_short, few_rows, fits_lent}
 
 -- ── the rows of a text ──
 
@@ -153,7 +152,32 @@ module _
             shares_room = room.2;
           }
 
+      plain : refusal ≡ nothing
+      plain = asked ∙ unfit_plain read words (fits read.rows lent) (λ zero. none fine) (sym (ap (λ (r : Refusal). r.number) asked) ∙ accepted)
+
       pub done_left :
-          table_left_of (answer_of refusal read.rows) (table_over (first_rows read.rows words) lent) ≡ table_read text size lent
-      unfolding table_read table_left
-      done_left = rw (← same, eq-eqb refusal.number 0 accepted, held fine few, count fine)
+          table_left_of (answer_of nothing read.rows) (table_over (first_rows read.rows words) lent) ≡ table_read text size lent
+      unfolding table_read table_left nothing
+      done_left = rw (← same, plain, held fine few, count fine)
+
+  -- a fault of the text
+  pub fault_left : (fault : Refusal) → read ≡ fault_found fault → table_left_of (answer_of fault 0) lent ≡ table_read text size lent
+  unfolding fault_found rows_found fits
+  fault_left fault stopped = go (ℕ_discrete (text_fault text size).number 0)
+    where
+      go : Dec ((text_fault text size).number ≡ 0) → table_left_of (answer_of fault 0) lent ≡ table_read text size lent
+      go (yes fine) =
+          let same = sym stopped ∙ found fine (fits rows before) refl in
+          let zero_rows : 0 ≡ rows = ap (λ (r : Rows). r.rows) same in
+          let short : false ≡ fits rows before = ap (λ (r : Rows). r.kept) same in
+          let room : fits 0 before ≡ true
+          = rw (
+            le-leb 0 (length before.identifiers) (omega arith),
+            le-leb 0 (length before.parent_identifiers) (omega arith),
+            le-leb 0 (length before.shares) (omega arith),
+          ) in
+          absurd (true≢false (sym (short ∙ ap (λ (n : ℕ). fits n before) (sym zero_rows) ∙ room)))
+      go (no some) =
+          let here : read.fault ≡ fault = ap (λ (r : Rows). r.fault) stopped in
+          let number = λ (none : read.fault.number ≡ 0). some (sym (ap (λ (r : Refusal). r.number) (faulty some)) ∙ none) in
+          refused_left fault (sym (unfit_fault read words (fits read.rows lent) number ∙ here)) (rw here at number)

@@ -1,27 +1,26 @@
 -- Which outcome writing has, by what is refused; and what stands on a page that has room for a text.
 -- Assumes nothing.
-use Prim.Native.Nat.{ℕ, ◌+◌, ◌*◌, ◌^◌, ◌≤◌, ◌<◌}
+use Prim.Native.Nat.{ℕ, ◌+◌, ◌*◌, ◌≤◌, ◌<◌}
 use mathlib.Core.Path.{◌≡◌, refl, ap, ◌∙◌}
-use mathlib.Core.Bool.{Bool, true, false, cond}
 use mathlib.Core.Logic.{◌≢◌}
-use mathlib.Core.List.{List, [], ◌∷◌, ◌++◌}
+use mathlib.Core.List.{List, [], ◌∷◌}
 use mathlib.Mathlib.Data.Bool.Basic.{or-eq-false-eq-eq-false-and-eq-false as or-is-false}
 use native.Mathlib.Omega.{arith}
-use lib.Dec.{eqb, ltb}
+use lib.Dec.{ltb}
 use lib.IntN.{ℤ}
-use lib.ListN.{length, take, drop, replicate, length-append, length-replicate}
+use lib.ListN.{length, take, drop}
 use lib.Seq.{take_at}
 use borrow.Author.Tests.{ne_eqb, lt-ltb, le-ltb, ltb-false}
 use Rattle.input.specs.declared.Refusal.{Refusal}
 use Rattle.input.specs.Limits.{least_rows, most_rows}
-use Rattle.input.specs.Classes.{Table, Tree, tree_of}
+use Rattle.input.specs.Classes.{Table}
 use Rattle.input.specs.Refusals.{nothing, given, or_else, first, rows_refused, table_refused}
 use Rattle.rules.specs.Outcome.{over}
-use Rattle.tables.specs.Answers.{refusal_of, accepting, refusing, answer, reading}
+use Rattle.tables.specs.Answers.{refusal_of}
 use Rattle.tables.proofs.Firsts.{or_else_first, or_else_second, given_last, given_plain, or_else_plain, table_plain, first_append}
 use Rattle.tables.proofs.Answering.{sized}
 use Rattle.laws.proofs.Tree.Trees.{given_none, or_none}
-use Rattle.output.specs.Pages.{Page, Puts}
+use Rattle.output.specs.Pages.{Page, page_of, with_text, Puts}
 use Rattle.output.proofs.Pages.{with_all}
 use Rattle.forms.proofs.Room.{table_room, report_room}
 use Rattle.forms.specs.Texts.{table_text, report_text}
@@ -29,26 +28,12 @@ use Rattle.forms.specs.Outcomes.{answer_of, text_left_of, text_left, length_refu
 
 -- ── a page ──
 
--- what stands on a page that this text was put on: all of it
-pub record Held (text page : List ℕ) (used : ℕ) : Type 0 where
-  pub long : used ≡ length text
-  pub within : used ≤ length page
-  pub short : used < 2 ^ 32
-  pub begun : take used page ≡ text
-
-held : (size used : ℕ) (text page : List ℕ) → size < 2 ^ 32 → length text ≤ size → Puts text (replicate size 0) 0 page used → Held text page used
-held size used text page small room put =
-    let rest : List ℕ = drop (length text) (replicate size 0) in
-    let whole = length-replicate {A = ℕ} size 0 in
-    let all = put ∙ with_all (replicate size 0) text (omega arith) in
-    let long : used ≡ length text = ap (λ (p : Page). p.used) all in
-    let same : page ≡ text ++ rest = ap (λ (p : Page). p.bytes) all in
-    record {
-      long = long;
-      short = omega arith;
-      within = rw (long, same) (simp length-append (omega arith));
-      begun = rw (long, same) (take_at text rest (length text) refl);
-    }
+-- what stands on a page that had room for a text that was put on it: all of it
+stands :
+    (text : List ℕ) (first page : Page) → first.used ≡ 0 → length text ≤ length first.bytes → Puts text first page → take page.used page.bytes ≡ text
+stands text first page unused room put =
+    let all = put ∙ ap (λ (used : ℕ). with_text (page_of first.bytes used) text) unused ∙ with_all first.bytes text room in
+    rw (ap (λ (p : Page). p.used) all, ap (λ (p : Page). p.bytes) all) (take_at text (drop (length text) first.bytes) (length text) refl)
 
 -- ── the outcome ──
 
@@ -84,11 +69,13 @@ module _ (table : Table) (lent : List ℕ) where
   table_rows some = rw (or_else_first (rows_refused table) _ some) (left_refused (rows_refused table) (table_text table) lent some)
 
   module _ (fits : (rows_refused table).number ≡ 0) where
-    pub table_held :
-        (page : List ℕ) (used : ℕ) → Puts (table_text table) (replicate table_bytes 0) 0 page used
-        → Held (table_text table) page used
-    table_held page used put =
-        held table_bytes used (table_text table) page (omega arith) (omega (arith, table_room table, (sized table fits).most)) put
+    pub table_fits : length (table_text table) ≤ table_bytes
+    table_fits = omega (arith, table_room table, (sized table fits).most)
+
+    pub table_whole :
+        (first page : Page) (bytes : List ℕ) → first.used ≡ 0 → length first.bytes ≡ table_bytes → Puts (table_text table) first page
+        → bytes ≡ take page.used page.bytes → bytes ≡ table_text table
+    table_whole first page bytes unused size put seen = seen ∙ stands (table_text table) first page unused (omega (arith, table_fits)) put
 
     pub table_short :
         length lent < length (table_text table)
@@ -112,7 +99,7 @@ module _ (table : Table) (lent : List ℕ) where
 
       pub table_fine :
           (table_refused table).number ≡ 0
-          → table_written table lent ≡ text_left_of (answer_of (table_refused table) (length (table_text table))) (over (table_text table) lent)
+          → table_written table lent ≡ text_left_of (answer_of nothing (length (table_text table))) (over (table_text table) lent)
       unfolding table_written first
       table_fine none =
           let plain = table_plain table none in
@@ -125,16 +112,9 @@ module _ (table : Table) (lent : List ℕ) where
           )
           (left_done (table_text table) lent)
 
-reading_says : (one : Bool) (refusal : Refusal) (tree : Tree) → (cond one (accepting refusal tree) (refusing refusal)).refusal ≡ refusal
-unfolding accepting refusing
-reading_says true refusal tree = refl
-reading_says false refusal tree = refl
-
 -- what refuses a table as it is read, once its lengths are right
-pub table_said : (table : Table) → (rows_refused table).number ≡ 0 → (reading table).refusal ≡ table_refused table
-unfolding reading answer
-table_said table fits = rw (or_else_second (rows_refused table) (table_refused table) fits)
-    (reading_says (eqb (table_refused table).number 0) (table_refused table) (tree_of table))
+pub table_said : (table : Table) → (rows_refused table).number ≡ 0 → or_else (rows_refused table) (table_refused table) ≡ table_refused table
+table_said table fits = or_else_second (rows_refused table) (table_refused table) fits
 
 -- ── a report with its lags ──
 
@@ -179,9 +159,13 @@ module _ (identifiers report : List ℕ) (lags : List ℤ) (lent : List ℕ) whe
   report_unfit some = rw (in_order, or_else_first (or_else counted results) _ some) (left_refused (or_else counted results) text lent some)
 
   module _ (fits : (or_else counted results).number ≡ 0) where
-    pub report_held : (page : List ℕ) (used : ℕ) → Puts text (replicate report_bytes 0) 0 page used → Held text page used
-    report_held page used put =
-        held report_bytes used text page (omega arith) (omega (arith, report_room identifiers report lags, few (or_none counted results fits).0)) put
+    pub report_fits : length text ≤ report_bytes
+    report_fits = omega (arith, report_room identifiers report lags, few (or_none counted results fits).0)
+
+    pub report_whole :
+        (first page : Page) (bytes : List ℕ) → first.used ≡ 0 → length first.bytes ≡ report_bytes → Puts text first page
+        → bytes ≡ take page.used page.bytes → bytes ≡ text
+    report_whole first page bytes unused size put seen = seen ∙ stands text first page unused (omega (arith, report_fits)) put
 
     pub report_short : length lent < length text → report_written identifiers report lags lent ≡ text_left_of (answer_of (refusal_of 40 0 0) 0) lent
     unfolding report_written
@@ -196,7 +180,7 @@ module _ (identifiers report : List ℕ) (lags : List ℤ) (lent : List ℕ) whe
 
     pub report_fine :
         length text ≤ length lent
-        → report_written identifiers report lags lent ≡ text_left_of (answer_of (or_else counted results) (length text)) (over text lent)
+        → report_written identifiers report lags lent ≡ text_left_of (answer_of nothing (length text)) (over text lent)
     unfolding report_written
     report_fine long =
         rw (

@@ -1,13 +1,12 @@
 -- What reading a table asks of its parts: a row goes to its place as its line ends, and what refuses the rows that were read.
-use Rattle.std.specs.Prelude.{ℕ, ◌-◌, ◌≤◌, Bool, cond, not, List, [], ◌∷◌, length, set, take}
+use Rattle.std.specs.Prelude.{ℕ, ◌≡◌, ◌≢◌, ◌-◌, ◌≤◌, Bool, Option, Some, None, cond, not, List, [], ◌∷◌, length, set, take}
 use Rattle.input.specs.Classes.{Table}
 use Rattle.input.specs.declared.Refusal.{Refusal}
 use Rattle.input.specs.Refusals.{given, first, table_refused}
 use Rattle.input.specs.Lent.{table_of}
 use Rattle.forms.specs.declared.Scan.{Scan}
-use Rattle.forms.specs.declared.Rows.{Rows}
 use Rattle.forms.specs.Faults.{ends_row, table_in}
-use Rattle.forms.specs.Outcomes.{count_refused}
+use Rattle.forms.specs.Outcomes.{Rows, count_refused}
 
 -- the slices have room for every row of a text
 pub record Room (text : List ℕ) (lent : Table) : Type 0 where
@@ -41,3 +40,8 @@ pub record Copyable (rows : ℕ) (words lent : Table) : Type 0 where
 unfoldable pub unfit : Rows → Table → Bool → Refusal
 unfit read words room =
     first (read.fault ∷ count_refused read.rows ∷ given (not room) 3 0 ∷ table_refused (first_rows read.rows words) ∷ [])
+
+-- a number, where it is not 0
+abbrev pub Numbered : ℕ → Option ℕ → Type 0
+Numbered number None = number ≡ 0
+Numbered number (Some n) = (number ≢ 0) × (n ≡ number)

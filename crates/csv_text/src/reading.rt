@@ -1,15 +1,16 @@
 // Reading a class table's text into lent slices. A refusal writes nothing.
-ghost use Rattle.std.specs.Prelude.{◌≡◌, ◌≤◌, length};
+ghost use Rattle.std.specs.Prelude.{◌≡◌, ◌≤◌, ⊤, length};
 ghost use Rattle.input.specs.Lent.{table_of};
 ghost use Rattle.rules.specs.Outcome.{over};
 ghost use Rattle.input.specs.Limits.{most_rows};
 ghost use Rattle.input.specs.Classes.{Table};
-ghost use Rattle.forms.specs.Outcomes.{RowsRead, TableRead, rows_left_of, table_left_of, answer_of, rows_found, fault_found, table_over, fits, count_refused};
+ghost use Rattle.forms.specs.Outcomes.{RowsRead, TableRead, rows_left_of, table_left_of, answered, rows_said, rows_found, table_over, fits, count_refused};
 ghost use Rattle.csv_text.specs.Kept.{Copyable, first_rows, unfit};
+ghost use Rattle.tables.specs.Judged.{Judged};
 
 use crate::scans::{fill, rows_of, scan_refused, scan_text};
-use forms::Rows;
-use input::{Answer, LEAST_ROWS, MOST_ROWS, Refusal};
+use forms::Counted;
+use input::{LEAST_ROWS, MOST_ROWS, Refusal};
 
 // The rows of a text of so many bytes, whatever numbers they hold: 40, then 41 to 47.
 pub fn read_rows(
@@ -18,59 +19,31 @@ pub fn read_rows(
     identifiers: &mut [u32],
     parents: &mut [u32],
     shares: &mut [u32],
-) -> Rows
+) -> Result<Counted, Refusal>
     ensures { RowsRead text.now size (table_of identifiers.old parents.old shares.old)
-        (rows_left_of result (table_of identifiers.new parents.new shares.new)) }
+        (rows_left_of (rows_said result) (table_of identifiers.new parents.new shares.new)) }
 {
     if text.len() < size {
-        return faulty(tables::refusal(40, 0, 0));
+        return Err(tables::refusal(40, 0, 0));
     }
     let bytes = &text[..size];
     let scan = scan_text(bytes);
-    let fault = scan_refused(scan);
-    if fault.number != 0 {
-        return faulty(fault);
-    }
+    scan_refused(scan)?;
     let rows = rows_of(scan.lines);
-    if fits(rows, identifiers.len(), parents.len(), shares.len()) {
+    let kept = fits(rows, identifiers.len(), parents.len(), shares.len());
+    if kept {
         fill(bytes, identifiers, parents, shares);
-        return found(rows, true);
     }
-    found(rows, false)
-}
-
-fn faulty(fault: Refusal) -> Rows
-    ensures { result ≡ fault_found fault }
-{
-    Rows {
-        fault,
-        rows: 0,
-        kept: false,
-    }
-}
-
-fn found(rows: u64, kept: bool) -> Rows
-    ensures { result ≡ rows_found rows kept }
-{
-    Rows {
-        fault: tables::none(),
-        rows,
-        kept,
-    }
+    Ok(Counted { rows, kept })
 }
 
 // Whether slices of so many words have room for these rows.
+#[tactic(auto, unfolding(forms::specs::Outcomes::fits))]
 fn fits(rows: u64, identifiers: usize, parents: usize, shares: usize) -> bool
     ensures { (lent : Table) → length lent.identifiers ≡ identifiers → length lent.parent_identifiers ≡ parents
         → length lent.shares ≡ shares → result ≡ fits rows lent }
 {
-    if (identifiers as u64) < rows {
-        return false;
-    }
-    if (parents as u64) < rows {
-        return false;
-    }
-    rows <= shares as u64
+    rows <= identifiers as u64 && rows <= parents as u64 && rows <= shares as u64
 }
 
 // A class table of so many bytes: 40, then 41 to 47, 1, 3, and the table's own. The count is that of its rows.
@@ -80,9 +53,9 @@ pub fn read_table(
     identifiers: &mut [u32],
     parents: &mut [u32],
     shares: &mut [u32],
-) -> Answer
+) -> Result<u32, Refusal>
     ensures { TableRead text.now size (table_of identifiers.old parents.old shares.old)
-        (table_left_of result (table_of identifiers.new parents.new shares.new)) }
+        (table_left_of (answered result) (table_of identifiers.new parents.new shares.new)) }
 {
     let mut row_identifiers = [0u32; MOST_ROWS];
     let mut row_parents = [0u32; MOST_ROWS];
@@ -93,12 +66,9 @@ pub fn read_table(
         &mut row_identifiers,
         &mut row_parents,
         &mut row_shares,
-    );
+    )?;
     let room = fits(read.rows, identifiers.len(), parents.len(), shares.len());
-    let refusal = unfit(read, &row_identifiers, &row_parents, &row_shares, room);
-    if refusal.number != 0 {
-        return answer(refusal, 0);
-    }
+    unfit(read, &row_identifiers, &row_parents, &row_shares, room)?;
     copy_rows(
         read.rows as usize,
         &row_identifiers,
@@ -108,63 +78,45 @@ pub fn read_table(
         parents,
         shares,
     );
-    answer(refusal, read.rows as u32)
+    Ok(read.rows as u32)
 }
 
-// What refuses a table whose rows were read into these words: the text's fault, 1, 3 where the lent slices have no room, and its own.
+// What refuses a table whose rows were read into these words: 1, 3 where the lent slices have no room, and its own.
 fn unfit(
-    read: Rows,
+    read: Counted,
     row_identifiers: &[u32],
     row_parents: &[u32],
     row_shares: &[u32],
     room: bool,
-) -> Refusal
+) -> Result<(), Refusal>
     requires { (most_rows ≤ length row_identifiers.now) × (most_rows ≤ length row_parents.now) × (most_rows ≤ length row_shares.now) }
-    ensures { result ≡ unfit read (table_of row_identifiers.now row_parents.now row_shares.now) room }
+    ensures { Judged (unfit (rows_found read.rows read.kept) (table_of row_identifiers.now row_parents.now row_shares.now) room) tt result }
 {
-    let fault = read.fault;
-    if fault.number != 0 {
-        return fault;
-    }
     let rows = read.rows as usize;
-    let counted = count_refused(rows);
-    if counted.number != 0 {
-        return counted;
+    count_refused(rows)?;
+    if !room {
+        return Err(tables::refusal(3, 0, 0));
     }
-    if room {
-        let reading = tables::read_table(
-            &row_identifiers[..rows],
-            &row_parents[..rows],
-            &row_shares[..rows],
-        );
-        return reading.refusal;
-    }
-    tables::refusal(3, 0, 0)
+    let identifiers = &row_identifiers[..rows];
+    let parents = &row_parents[..rows];
+    let shares = &row_shares[..rows];
+    tables::read_table(identifiers, parents, shares)?;
+    Ok(())
 }
 
 // 1 for so many rows.
-pub fn count_refused(rows: usize) -> Refusal
-    ensures { result ≡ count_refused rows }
+#[tactic(auto, unfolding(forms::specs::Outcomes::count_refused, input::specs::Refusals::given))]
+pub fn count_refused(rows: usize) -> Result<(), Refusal>
+    ensures { Judged (count_refused rows) tt result }
 {
-    if rows < LEAST_ROWS {
-        return tables::refusal(1, 0, 0);
+    if rows < LEAST_ROWS || MOST_ROWS < rows {
+        return Err(tables::refusal(1, 0, 0));
     }
-    tables::given(MOST_ROWS < rows, 1, 0)
-}
-
-// A refusal, or none, as an answer.
-pub fn answer(refusal: Refusal, count: u32) -> Answer
-    ensures { result ≡ answer_of refusal count }
-{
-    Answer {
-        number: refusal.number,
-        place: refusal.place,
-        second: refusal.second,
-        count,
-    }
+    Ok(())
 }
 
 // The first rows of these words, over the first of slices that have as many.
+#[tactic(auto, unfolding(forms::specs::Outcomes::table_over, crate::specs::Kept::first_rows))]
 fn copy_rows(
     rows: usize,
     row_identifiers: &[u32],
@@ -184,14 +136,11 @@ fn copy_rows(
     copy(&row_shares[..rows], shares);
 }
 
-// All of these words, over the first of a slice that has as many.
-pub fn copy(words: &[u32], lent: &mut [u32])
-    requires { length words.now ≤ length lent.old }
-    ensures { lent.new ≡ over words.now lent.old }
+// All of these, over the first of a slice that has as many.
+#[tactic(auto, unfolding(rules::specs::Outcome::over))]
+pub fn copy<T: Copy>(items: &[T], lent: &mut [T])
+    requires { length items.now ≤ length lent.old }
+    ensures { lent.new ≡ over items.now lent.old }
 {
-    let mut i = 0;
-    while i < words.len() {
-        lent[i] = words[i];
-        i += 1;
-    }
+    lent[..items.len()].copy_from_slice(items);
 }

@@ -1,16 +1,14 @@
 // A whole text: its first fault, and the rows that it has.
-ghost use Rattle.std.specs.Prelude.{◌≡◌, cond, suc, ◌-◌, ◌<◌, ◌^◌, eqb, set};
+ghost use Rattle.std.specs.Prelude.{◌≡◌, suc, ◌-◌, ◌<◌, ◌^◌, ⊤, set};
 ghost use Rattle.input.specs.Lent.{table_of};
 ghost use Rattle.forms.specs.Faults as faults;
 ghost use Rattle.forms.specs.Outcomes.{table_over};
-ghost use Rattle.csv_text.specs.Kept.{Room, keeping};
+ghost use Rattle.csv_text.specs.Kept.{Room, Numbered, keeping};
+ghost use Rattle.tables.specs.Judged.{Judged};
 
 use crate::places::after;
 use forms::{Place, Scan};
 use input::Refusal;
-
-// The largest line that a place can say.
-const MOST_LINE: u64 = u32::MAX as u64;
 
 // Nothing is read yet.
 pub fn unread() -> Scan
@@ -30,59 +28,44 @@ pub fn scan_text(text: &[u8]) -> Scan
     ensures { result ≡ (faults.read_text text.now).scan }
 {
     let mut scan = unread();
-    let mut i = 0;
-    while i < text.len() {
-        scan = after(scan, text[i]);
-        i += 1;
+    for &byte in text {
+        scan = after(scan, byte);
     }
     scan
 }
 
-// What is wrong where a text ends here; 0 where nothing is.
-fn fault_at(place: Place) -> u32
-    ensures { result ≡ faults.fault_at place }
+// What is wrong where a text ends here.
+#[tactic(auto, unfolding(forms::specs::Faults::fault_at))]
+fn fault_at(place: Place) -> Option<u32>
+    ensures { Numbered (faults.fault_at place) result }
 {
     match place {
-        Place::Heading(_) => 47,
-        Place::Due(field) => unless_first(field),
-        Place::Number { field: _, n: _ } => 47,
-        Place::Return => 47,
-        Place::Fault(number) => number,
+        Place::Due(0) | Place::Fault(0) => None,
+        Place::Fault(number) => Some(number),
+        _ => Some(47),
     }
-}
-
-fn unless_first(field: u32) -> u32
-    ensures { result ≡ cond (eqb field 0) 0 47 }
-{
-    if field == 0 {
-        return 0;
-    }
-    47
 }
 
 // The line after so many, as far as a place can say.
+#[tactic(auto, unfolding(forms::specs::Faults::line_of))]
 fn line_of(lines: u64) -> u32
     ensures { result ≡ faults.line_of lines }
 {
-    if lines < MOST_LINE {
-        return (lines + 1) as u32;
-    }
-    u32::MAX
+    u32::try_from(lines.saturating_add(1)).unwrap_or(u32::MAX)
 }
 
 // The fault of a text that ends here, and its line.
-pub fn scan_refused(scan: Scan) -> Refusal
-    ensures { result ≡ faults.scan_refused scan }
+#[tactic(auto, unfolding(forms::specs::Faults::scan_refused))]
+pub fn scan_refused(scan: Scan) -> Result<(), Refusal>
+    ensures { Judged (faults.scan_refused scan) tt result }
 {
-    let place = scan.place;
-    let number = fault_at(place);
-    if number == 0 {
-        return tables::none();
-    }
-    Refusal {
-        number,
-        place: line_of(scan.lines),
-        second: 0,
+    match fault_at(scan.place) {
+        None => Ok(()),
+        Some(number) => Err(Refusal {
+            number,
+            place: line_of(scan.lines),
+            second: 0,
+        }),
     }
 }
 
@@ -90,10 +73,7 @@ pub fn scan_refused(scan: Scan) -> Refusal
 pub fn rows_of(lines: u64) -> u64
     ensures { result ≡ lines - 1 }
 {
-    if lines == 0 {
-        return 0;
-    }
-    lines - 1
+    lines.saturating_sub(1)
 }
 
 // Every row of a text, over the first words of the slices, which have room for all of them.
@@ -103,10 +83,8 @@ pub fn fill(text: &[u8], identifiers: &mut [u32], parents: &mut [u32], shares: &
         ≡ table_over (faults.table_in text.now) (table_of identifiers.old parents.old shares.old) }
 {
     let mut scan = unread();
-    let mut i = 0;
-    while i < text.len() {
-        scan = keep(scan, text[i], identifiers, parents, shares);
-        i += 1;
+    for &byte in text {
+        scan = keep(scan, byte, identifiers, parents, shares);
     }
 }
 

@@ -1,7 +1,7 @@
 -- Of an accepted table no share is cut and no step is left out: a class's part of the line is the product of all shares on its way.
 -- Assumes nothing.
-use Prim.Native.Nat.{ℕ, zero, suc, ◌+◌, ◌*◌, ◌/◌, ◌^◌, ◌<◌, ◌≤◌, min}
-use mathlib.Core.Path.{◌≡◌, refl, sym, ◌∙◌, ap, ap₂}
+use Prim.Native.Nat.{ℕ, zero, suc, ◌*◌, ◌/◌, ◌^◌, ◌<◌, min}
+use mathlib.Core.Path.{◌≡◌, refl, ◌∙◌, ap, ap₂}
 use native.Mathlib.Omega.{arith}
 use Rattle.input.specs.Limits.{whole, most_depth}
 use Rattle.input.specs.Classes.{Table, Tree, tree_of, parent, depth, share}

@@ -1,7 +1,7 @@
 -- Each contract leaves no choice.
 -- Assumes nothing.
 use Prim.Native.Nat.{ℕ}
-use mathlib.Core.Path.{◌≡◌, refl, sym, ◌∙◌}
+use mathlib.Core.Path.{refl, sym, ◌∙◌}
 use mathlib.Core.List.{List, []}
 use Rattle.input.specs.Classes.{Tree}
 use Rattle.words.specs.Unique.{Unique}

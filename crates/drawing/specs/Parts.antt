@@ -1,5 +1,5 @@
 -- The parts of a class: of its parent and of the line, in hundredths of a per cent, cut.
-use Rattle.std.specs.Prelude.{ℕ, zero, suc, ◌+◌, ◌*◌, ◌/◌, ◌^◌, min}
+use Rattle.std.specs.Prelude.{ℕ, zero, suc, ◌*◌, ◌/◌, ◌^◌, min}
 use Rattle.input.specs.Limits.{whole, most_depth}
 use Rattle.input.specs.Classes.{Tree, parent, depth, share}
 

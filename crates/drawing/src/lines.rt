@@ -3,7 +3,8 @@ ghost use Rattle.std.specs.Prelude.{◌≤◌};
 
 use crate::order::following;
 use crate::parts::{HUNDREDTHS, of_line, of_parent};
-use output::{put_byte, put_number, put_text};
+use arrays::TreeArrays;
+use output::Page;
 use words::{long, word};
 
 // How wide the columns are.
@@ -15,97 +16,68 @@ const OF_PARENT: u64 = 13;
 
 const OF_LINE: u64 = 15;
 
-// Puts the tree of an accepted table of so many rows, from the parents, depths and shares as it is read.
-pub fn put_tree(
-    page: &mut [u8],
+// Puts the tree of an accepted table of so many rows.
+pub fn put_tree<const N: usize>(
+    page: &mut Page<N>,
     identifiers: &[u32],
-    parents: &[u32],
-    depths: &[u32],
-    shares: &[u32],
+    tree: &TreeArrays,
     rows: u32,
-) -> usize {
-    let mut used = put_text(
-        page,
-        0,
-        b"class                 share  % of parent  % of the line\n",
-    );
-    let mut row = 0;
-    let mut drawn = 0;
-    while drawn < rows {
-        used = put_row(page, used, identifiers, parents, depths, shares, row);
-        row = following(parents, rows, row);
-        drawn += 1;
+) {
+    page.put_text(b"class                 share  % of parent  % of the line\n");
+    let mut next = Some(0);
+    for _ in 0..rows {
+        let Some(row) = next else { return };
+        put_class(page, word(&tree.depths, row), word(identifiers, row));
+        let part = of_line(tree, row);
+        put_parts(page, row, word(&tree.shares, row), part);
+        page.put_byte(b'\n');
+        next = following(&tree.parents, rows, row);
     }
-    used
-}
-
-fn put_row(
-    page: &mut [u8],
-    used: usize,
-    identifiers: &[u32],
-    parents: &[u32],
-    depths: &[u32],
-    shares: &[u32],
-    row: u32,
-) -> usize {
-    let used = put_class(page, used, word(depths, row), word(identifiers, row));
-    let used = put_parts(
-        page,
-        used,
-        row,
-        word(shares, row),
-        of_line(parents, depths, shares, row),
-    );
-    put_byte(page, used, 10)
 }
 
 // The identifier, two blanks to the right for each step of depth.
-fn put_class(page: &mut [u8], used: usize, depth: u32, identifier: u32) -> usize {
+fn put_class<const N: usize>(page: &mut Page<N>, depth: u32, identifier: u32) {
     let indent = 2 * long(depth);
-    let used = put_blanks(page, used, indent);
-    let used = put_number(page, used, long(identifier));
-    put_blanks(page, used, less(CLASS, indent + digits(long(identifier))))
+    put_blanks(page, indent);
+    page.put_word(identifier);
+    put_blanks(
+        page,
+        CLASS.saturating_sub(indent + digits(long(identifier))),
+    );
 }
 
 // The share and the two parts; of the line itself only that it is all of it.
-fn put_parts(page: &mut [u8], used: usize, row: u32, share: u32, part: u64) -> usize {
+fn put_parts<const N: usize>(page: &mut Page<N>, row: u32, share: u32, part: u64) {
     if row == 0 {
-        let used = put_blanks(page, used, SHARE + OF_PARENT);
-        return put_hundredths(page, used, HUNDREDTHS, OF_LINE);
+        put_blanks(page, SHARE + OF_PARENT);
+        put_hundredths(page, HUNDREDTHS, OF_LINE);
+        return;
     }
-    let used = put_blanks(page, used, less(SHARE, digits(long(share))));
-    let used = put_number(page, used, long(share));
-    let used = put_hundredths(page, used, of_parent(share), OF_PARENT);
-    put_hundredths(page, used, part, OF_LINE)
+    put_blanks(page, SHARE.saturating_sub(digits(long(share))));
+    page.put_word(share);
+    put_hundredths(page, of_parent(share), OF_PARENT);
+    put_hundredths(page, part, OF_LINE);
 }
 
 // Hundredths of a per cent as per cent, at the right of a column. No class has no part at all.
-fn put_hundredths(page: &mut [u8], used: usize, part: u64, width: u64) -> usize {
+fn put_hundredths<const N: usize>(page: &mut Page<N>, part: u64, width: u64) {
     if part == 0 {
-        let used = put_blanks(page, used, less(width, 6));
-        return put_text(page, used, b"< 0.01");
+        put_blanks(page, width.saturating_sub(6));
+        page.put_text(b"< 0.01");
+        return;
     }
-    let used = put_blanks(page, used, less(width, digits(part / 100) + 3));
-    let used = put_number(page, used, part / 100);
-    let used = put_byte(page, used, 46);
-    let used = put_number(page, used, part / 10 % 10);
-    put_number(page, used, part % 10)
+    put_blanks(page, width.saturating_sub(digits(part / 100) + 3));
+    page.put_number(part / 100);
+    page.put_byte(b'.');
+    page.put_number(part / 10 % 10);
+    page.put_number(part % 10);
 }
 
-// So many blanks, as far as a column is wide.
-fn put_blanks(page: &mut [u8], used: usize, count: u64) -> usize {
-    let mut used = used;
-    let mut i = 0;
-    while i < count {
-        used = put_byte(page, used, 32);
-        i += 1;
+// So many blanks.
+fn put_blanks<const N: usize>(page: &mut Page<N>, count: u64) {
+    for _ in 0..count {
+        page.put_byte(b' ');
     }
-    used
-}
-
-// By how much a number is more than another.
-fn less(a: u64, b: u64) -> u64 {
-    if a < b { 0 } else { a - b }
 }
 
 // How many digits a number of up to five has.

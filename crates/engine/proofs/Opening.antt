@@ -15,12 +15,12 @@ use Rattle.rules.specs.Outcome.{over}
 use Rattle.laws.proofs.Event.Outset.{replicate_at, zeros_at, empty_queue}
 use Rattle.laws.proofs.Tree.Trees.{zeros_full}
 use Rattle.laws.specs.Named.{class_for}
-use Rattle.heaps.specs.Heaps.{Forest}
-use Rattle.arrays.specs.Arrays.{rows_of}
-use Rattle.choosing.specs.declared.Way.{Way}
-use Rattle.choosing.specs.Filed.{Filed}
+use Rattle.arrays.specs.declared.RowArrays.{RowArrays}
+use Rattle.arrays.specs.declared.CountArrays.{CountArrays}
+use Rattle.arrays.specs.Arrays.{rows_in, no_counts}
+use Rattle.choosing.specs.Filed.{Filing}
 use Rattle.laws.proofs.Run.Sizes.{since_below, parent_since_below}
-use Rattle.counts.specs.Counts.{AtMost, most_finished}
+use Rattle.counts.specs.Counts.{AtMost, most_finished, Counts}
 use Rattle.report.specs.Shown.{Shown}
 use Rattle.report.specs.Lags.{Past}
 use Rattle.events.specs.Links.{last_word, Chain}
@@ -55,17 +55,16 @@ cleared_again n lent used cleared rest is =
 -- ── before the first event ──
 
 pub fresh_now :
-    (way : Way) (tree : Tree) (events : Events) (f : Forest) (lent links : List ℕ) → Filed way tree (class_for tree events) fresh.rows 0 f
+    (Filed : Filing) (tree : Tree) (events : Events) (a : Rows) (c : CountArrays) (lent links : List ℕ) → Filed tree (class_for tree events) fresh.rows 0
+    → a ≡ fresh.rows → c ≡ no_counts
     → links ≡ over (replicate (count events) 0) lent
-    → Now way tree events 0 0
-    (rows_of (replicate most_rows 0) (replicate most_rows 0) (replicate most_rows 0) (replicate most_rows 0) (replicate most_rows 0) (replicate most_rows 0)) f
-    (replicate most_rows 0) (replicate most_rows 0) (replicate most_rows 0) (replicate most_rows 0) (replicate most_rows 0) links
-unfolding after fresh zeros Chain last_word
-fresh_now way tree events f lent links filed cleared =
+    → Now Filed tree events 0 0 a c (replicate most_rows 0) links
+unfolding after fresh zeros Chain last_word no_counts
+fresh_now Filed tree events a c lent links filed rows counts cleared =
     record {
-      filed = filed;
-      rows_are = refl;
-      counts_are = record { bytes = refl; held = refl; since = refl; parent_since = refl };
+      filed = rw rows filed;
+      rows_are = sym rows;
+      counts_are = rw counts (record { bytes = refl; held = refl; since = refl; parent_since = refl });
       sent_are = refl;
       linked =
           record {
@@ -82,13 +81,11 @@ fresh_order tree events lent = refl
 
 -- ── after the last event ──
 
-past :
-    (tree : Tree) (events : Events) → Fit tree events
-    → Past tree.rows tree.parents (after tree events (count events)).bytes (after tree events (count events)).since (after tree events (count events)).parent_since
-past tree events fit =
+past : (tree : Tree) (events : Events) (c : CountArrays) → Fit tree events → Counts (after tree events (count events)) c → Past tree.rows tree.parents c
+past tree events c fit counts =
     record {
-      own_grew = λ r inside. since_below tree events (count events) r fit.accepted inside;
-      above_grew = λ r inside. parent_since_below tree events (count events) r fit.accepted (above r inside) inside;
+      own_grew = λ r inside. rw (← counts.since, ← counts.bytes) (since_below tree events (count events) r fit.accepted inside);
+      above_grew = λ r inside. rw (← counts.parent_since, ← counts.bytes) (parent_since_below tree events (count events) r fit.accepted (above r inside) inside);
     }
   where
     -- the root is its own parent
@@ -97,21 +94,21 @@ past tree events fit =
     above (suc r) inside = fit.accepted.sound.parent_row (suc r) (omega arith) inside
 
 module _
-    {way : Way} {tree : Tree} {events : Events} {sent : ℕ} {a : Rows} {f : Forest} {bytes held since parent_since lasts links : List ℕ}
-    (now : Now way tree events (count events) sent a f bytes held since parent_since lasts links) where
-  pub shown : Shown (after tree events (count events)) a.starts a.finishes a.virtuals bytes held
+    {Filed : Filing} {tree : Tree} {events : Events} {sent : ℕ} {rows : RowArrays} {c : CountArrays} {lasts links : List ℕ}
+    (now : Now Filed tree events (count events) sent (rows_in rows) c lasts links) where
+  pub shown : Shown (after tree events (count events)) rows c
   shown =
       record {
-        starts = ap (λ (rows : Rows). rows.starts) now.rows_are;
-        finishes = ap (λ (rows : Rows). rows.finishes) now.rows_are;
-        virtuals = ap (λ (rows : Rows). rows.virtuals) now.rows_are;
+        starts = ap (λ (a : Rows). a.starts) now.rows_are;
+        finishes = ap (λ (a : Rows). a.finishes) now.rows_are;
+        virtuals = ap (λ (a : Rows). a.virtuals) now.rows_are;
         bytes = now.counts_are.bytes;
         held = now.counts_are.held;
       }
 
   module _ (fit : Fit tree events) where
-    pub past_now : Past tree.rows tree.parents bytes since parent_since
-    past_now = rw (← now.counts_are.bytes, ← now.counts_are.since, ← now.counts_are.parent_since) (past tree events fit)
+    pub past_now : Past tree.rows tree.parents c
+    past_now = past tree events c fit now.counts_are
 
-    pub bytes_now : AtMost most_finished bytes
+    pub bytes_now : AtMost most_finished c.bytes
     bytes_now r inside = rw (← now.counts_are.bytes) (bytes_small tree events fit (count events) (omega arith) r)

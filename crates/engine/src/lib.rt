@@ -1,49 +1,28 @@
 // The run, by either way to find the child that a row takes: refusals first, then event by event, then the results.
 #![tactic(auto)]
 
-ghost use Rattle.std.specs.Prelude.{◌≡◌, List, ℕ, ◌*◌, ◌≤◌, ◌<◌};
+ghost use Rattle.std.specs.Prelude.{◌≢◌, ◌*◌, ◌≤◌, IfErr};
 ghost use Rattle.std.proofs.Math.ListN as lists;
-ghost use Rattle.input.specs.Limits.{most_rows, report_words};
-ghost use Rattle.input.specs.Lent.{events_of, tree_with, tree_at};
-ghost use Rattle.rules.specs.Box.{fresh};
+ghost use Rattle.input.specs.Limits.{report_words};
+ghost use Rattle.input.specs.Lent.{events_of};
 ghost use Rattle.rules.specs.Outcome.{Ran};
-ghost use Rattle.heaps.specs.Sizes.{most_heaps, most_members};
-ghost use Rattle.heaps.specs.Heaps.{forest};
-ghost use Rattle.arrays.specs.Arrays.{Inside};
-ghost use Rattle.choosing.specs.Filed.{Filed};
+ghost use Rattle.arrays.specs.Arrays.{tree_in};
 ghost use Rattle.report.specs.Shown.{Sending};
 ghost use Rattle.events.specs.State.{Fit};
 ghost use Rattle.engine.specs.Served.{RowsFor, Served};
-ghost use Rattle.engine.specs.Run.{lent_of, left_of};
+ghost use Rattle.engine.specs.Run.{lent_of, left_of, answer_of};
 
-use choosing::Way;
-use heaps::{HEAPS, MEMBERS, Roots, Sides};
-use input::{Answer, EventRows, MOST_ROWS, RowMarks, RowWords};
-
-// Before the first event: to look at them, all children are listed; heaps are empty, as the arrays begin.
-pub fn open(way: Way, rows: usize, parents: &RowWords, roots: &mut Roots, right: &mut Sides)
-    requires rows_nonzero { (0 < rows) × (rows ≤ most_rows) }
-    requires inside { Inside parents.now }
-    requires roots_value { (roots.old ≡ lists.replicate most_heaps 0) × (right.old ≡ lists.replicate most_members 0) }
-    ensures { (ids depths shares : List ℕ) (class_of : ℕ → ℕ)
-        → Filed way (tree_with rows ids parents.now depths shares) class_of fresh.rows 0
-        (forest roots.new (lists.replicate most_members 0) right.new) }
-{
-    match way {
-        Way::Looking => looking::list_children(rows, parents, roots, right),
-        Way::Heaps => {}
-    }
-}
+use arrays::{CountArrays, RowArrays, TreeArrays};
+use checks::ResultRoom;
+use choosing::Finding;
+use input::{EventRows, MOST_ROWS, Refusal, RowMarks};
 
 // An input that is not refused: its events in turn, and then the results. So many packets have gone on the line.
-fn serve(
-    way: Way,
+fn serve<F: Finding>(
     identifiers: &[u32],
     classes: &[u32],
     lengths: &[u32],
-    parents: &RowWords,
-    depths: &RowWords,
-    shares: &RowWords,
+    tree: &TreeArrays,
     senders: &RowMarks,
     event_rows: &EventRows,
     order: &mut [u32],
@@ -51,56 +30,31 @@ fn serve(
     lags: &mut [i64],
     working: &mut [u32],
 ) -> u32
-    requires fit { Fit (tree_at identifiers.now parents.now depths.now shares.now) (events_of classes.now lengths.now) }
-    requires senders_told { Sending (tree_at identifiers.now parents.now depths.now shares.now) (lists.length identifiers.now) senders.now }
-    requires event_rows_told { RowsFor (tree_at identifiers.now parents.now depths.now shares.now) (events_of classes.now lengths.now) event_rows.now }
+    requires fit { Fit (tree_in (lists.length identifiers.now) identifiers.now tree.now) (events_of classes.now lengths.now) }
+    requires senders_told { Sending (tree_in (lists.length identifiers.now) identifiers.now tree.now) (lists.length identifiers.now) senders.now }
+    requires event_rows_told { RowsFor (tree_in (lists.length identifiers.now) identifiers.now tree.now) (events_of classes.now lengths.now) event_rows.now }
     requires order_room { lists.length classes.now ≤ lists.length order.old }
     requires working_room { lists.length classes.now ≤ lists.length working.old }
     requires report_room { report_words * lists.length identifiers.now ≤ lists.length report.old }
     requires lags_room { lists.length identifiers.now ≤ lists.length lags.old }
-    ensures { Served (tree_at identifiers.now parents.now depths.now shares.now)
+    ensures { Served (tree_in (lists.length identifiers.now) identifiers.now tree.now)
         (events_of classes.now lengths.now) result
         order.old order.new report.old report.new lags.old lags.new
         working.old working.new }
 {
-    let mut starts = [0u64; MOST_ROWS];
-    let mut finishes = [0u64; MOST_ROWS];
-    let mut virtuals = [0u64; MOST_ROWS];
-    let mut heads = [0u32; MOST_ROWS];
-    let mut head_lengths = [0u32; MOST_ROWS];
-    let mut head_classes = [0u32; MOST_ROWS];
-    let mut bytes = [0u64; MOST_ROWS];
-    let mut held = [0u32; MOST_ROWS];
-    let mut since = [0u64; MOST_ROWS];
-    let mut parent_since = [0u64; MOST_ROWS];
-    let mut lasts = [0u32; MOST_ROWS];
-    let mut roots = [0u8; HEAPS];
-    let mut left = [0u8; MEMBERS];
-    let mut right = [0u8; MEMBERS];
-    open(way, identifiers.len(), parents, &mut roots, &mut right);
+    let mut rows = RowArrays::zeros();
+    let mut counts = CountArrays::zeros();
+    let mut lasts = [0; MOST_ROWS];
+    let mut finding = F::open(identifiers.len(), tree);
     queues::clear(working, classes.len());
     let mut sent = 0;
-    let mut i = 0;
-    while i < classes.len() {
+    for i in 0..classes.len() {
         sent = events::step(
-            way,
-            parents,
-            depths,
-            shares,
+            tree,
             lengths,
-            &mut starts,
-            &mut finishes,
-            &mut virtuals,
-            &mut heads,
-            &mut head_lengths,
-            &mut head_classes,
-            &mut roots,
-            &mut left,
-            &mut right,
-            &mut bytes,
-            &mut held,
-            &mut since,
-            &mut parent_since,
+            &mut rows,
+            &mut finding,
+            &mut counts,
             &mut lasts,
             working,
             order,
@@ -108,35 +62,15 @@ fn serve(
             event_rows[i],
             sent,
         );
-        i += 1;
     }
-    report::write_report(
-        identifiers.len(),
-        senders,
-        &starts,
-        &finishes,
-        &virtuals,
-        &bytes,
-        &held,
-        report,
-    );
-    report::write_lags(
-        identifiers.len(),
-        parents,
-        shares,
-        &bytes,
-        &held,
-        &since,
-        &parent_since,
-        lags,
-    );
+    report::write_report(identifiers.len(), senders, &rows, &counts, report);
+    report::write_lags(identifiers.len(), tree, &counts, lags);
     sent
 }
 
 // The run by one of the ways. Of a refused input it answers the refusal and writes nothing; else it serves every event, and answers how
 // many packets went on the line.
-pub fn run(
-    way: Way,
+pub fn run<F: Finding>(
     identifiers: &[u32],
     parent_identifiers: &[u32],
     shares: &[u32],
@@ -146,58 +80,39 @@ pub fn run(
     report: &mut [u64],
     lags: &mut [i64],
     working: &mut [u32],
-) -> Answer
-    ensures { Ran
+) -> Result<u32, Refusal>
+    ensures numbered { IfErr result (λ refusal. refusal.number ≢ 0) }
+    ensures ran { Ran
         (lent_of identifiers.now parent_identifiers.now shares.now classes.now lengths.now
         order.old report.old lags.old working.old)
-        (left_of result order.new report.new lags.new working.new) }
+        (left_of (answer_of result) order.new report.new lags.new working.new) }
 {
+    let room = ResultRoom {
+        order: order.len(),
+        report: report.len(),
+        lags: lags.len(),
+        working: working.len(),
+    };
     let check = checks::check(
         identifiers,
         parent_identifiers,
         shares,
         classes,
         lengths,
-        order.len(),
-        report.len(),
-        lags.len(),
-        working.len(),
-    );
-    let reading = check.reading;
-    let refusal = reading.refusal;
-    if refusal.number != 0 {
-        return Answer {
-            number: refusal.number,
-            place: refusal.place,
-            second: refusal.second,
-            count: 0,
-        };
-    }
-    let parents = reading.parents;
-    let depths = reading.depths;
-    let parts = reading.shares;
-    let senders = reading.senders;
-    let event_rows = check.event_rows;
-    let sent = serve(
-        way,
+        room,
+    )?;
+    let sent = serve::<F>(
         identifiers,
         classes,
         lengths,
-        &parents,
-        &depths,
-        &parts,
-        &senders,
-        &event_rows,
+        &check.reading.tree,
+        &check.reading.senders,
+        &check.event_rows,
         order,
         report,
         lags,
         working,
     );
     queues::clear(working, classes.len());
-    Answer {
-        number: 0,
-        place: 0,
-        second: 0,
-        count: sent,
-    }
+    Ok(sent)
 }

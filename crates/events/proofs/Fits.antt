@@ -14,8 +14,8 @@ use Rattle.laws.specs.History.{Accepted}
 use Rattle.laws.proofs.Event.Turns.{fewer}
 use Rattle.laws.proofs.Run.Sizes.{tags_below, heads_below, bytes_below, held_below}
 use Rattle.laws.proofs.Run.Unwritten.{nothing_beyond}
-use Rattle.heaps.specs.Heaps.{Forest}
-use Rattle.choosing.specs.declared.Way.{Way}
+use Rattle.arrays.specs.declared.CountArrays.{CountArrays}
+use Rattle.choosing.specs.Filed.{Filing}
 use Rattle.hierarchy.specs.Sizes.{most_tag, Small}
 use Rattle.counts.specs.Counts.{most_finished}
 use Rattle.steps.specs.Ready.{Ready}
@@ -71,7 +71,7 @@ module _ (tree : Tree) (events : Events) (fit : Fit tree events) (i : ℕ) (befo
 
   -- so it is of arrays that are the box's
   pub ready_now :
-      {way : Way} {sent : ℕ} {a : Rows} {f : Forest} {bytes held since parent_since lasts links : List ℕ}
-      → Now way tree events i sent a f bytes held since parent_since lasts links → Ready tree.parents tree.depths a bytes held
+      {Filed : Filing} {sent : ℕ} {a : Rows} {c : CountArrays} {lasts links : List ℕ}
+      → Now Filed tree events i sent a c lasts links → Ready tree.parents tree.depths a c.bytes c.held
   ready_now now =
       rw (← now.rows_are, ← now.counts_are.bytes, ← now.counts_are.held) ready

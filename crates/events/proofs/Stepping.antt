@@ -9,7 +9,6 @@ use native.Mathlib.Omega.{arith}
 use lib.Dec.{eqb, lit<}
 use native.Mathlib.Numerals.{add-one}
 use lib.ListN.{length, get_or, set, take, length-append}
-use lib.Seq.{sets}
 use Rattle.input.specs.declared.Event.TheVariants.{Finish}
 use Rattle.input.specs.Limits.{most_rows, most_bytes, most_events}
 use Rattle.input.specs.Classes.{Tree, depth, row_of}
@@ -34,17 +33,15 @@ use Rattle.laws.proofs.Path.Naming.{own_packet}
 use Rattle.laws.proofs.Event.OneEvent.{line_sender, left_line}
 use Rattle.laws.proofs.Event.Keeping.{class_head}
 use Rattle.laws.proofs.Run.Sizes.{few, small_kept}
-use Rattle.heaps.specs.Heaps.{Forest}
-use Rattle.choosing.specs.declared.Way.{Way}
 use Rattle.arrays.specs.Arrays.{has_head_of}
+use Rattle.arrays.specs.declared.CountArrays.{CountArrays}
 use Rattle.looking.proofs.Parts.{head_part}
-use Rattle.choosing.specs.Filed.{Filed}
+use Rattle.choosing.specs.Filed.{Filing, Keeps}
 use Rattle.choosing.specs.Sizes.{Leeway, most_charge}
 use Rattle.choosing.proofs.Ticks.{less_leeway}
-use Rattle.choosing.proofs.Filing.{headed, set_aside, line_left}
 use Rattle.hierarchy.specs.Sizes.{most_climb}
 use Rattle.hierarchy.specs.Next.{next_of}
-use Rattle.hierarchy.specs.Climbing.{Climbs, Settles, front_row, front_rows}
+use Rattle.hierarchy.specs.Climbing.{Climbs, front_row, front_rows}
 use Rattle.hierarchy.proofs.Enough.{small_leeway, new_head_leeway}
 use Rattle.hierarchy.proofs.Later.{renews_first, renews_leeway}
 use Rattle.counts.specs.Counts.{Counts}
@@ -59,8 +56,8 @@ use Rattle.queues.proofs.Words.{sent_arrived, sent_finished}
 use Rattle.events.proofs.Sending.{order_most, order_more, sent_word_most}
 
 module _
-    {way : Way} {tree : Tree} {events : Events} {i row sent_before : ℕ} {a : Rows} {f : Forest} {bytes held since parent_since lasts links order : List ℕ}
-    (coming : Coming way tree events i row sent_before a f bytes held since parent_since lasts links order) where
+    {Filed : Filing} {tree : Tree} {events : Events} {i row sent_before : ℕ} {a : Rows} {c : CountArrays} {lasts links order : List ℕ}
+    (coming : Coming Filed tree events i row sent_before a c lasts links order) where
   abbrev box : Box
   box = after tree events i
 
@@ -74,7 +71,7 @@ module _
   unfolding event_refused
   not_refused = coming.fit.accepted.each i coming.inside
 
-  pub ready : Ready tree.parents tree.depths a bytes held
+  pub ready : Ready tree.parents tree.depths a c.bytes c.held
   ready = ready_now tree events coming.fit i (omega (arith, coming.inside)) coming.now
 
   -- how many packets have gone on the line: there is room for one more
@@ -147,14 +144,14 @@ module _
         go true = rw sound.root_depth
         go false = refl
 
-    pub front_climbs : Climbs way tree (class_for tree events) front from (depth tree from) f
+    front_climbs : Keeps Filed → Climbs Filed tree (class_for tree events) front from (depth tree from)
     unfolding front_rows front_row
-    front_climbs = go (has_head_of a.heads row) refl
+    front_climbs kept_filed = go (has_head_of a.heads row) refl
       where
         go :
             (b : Bool) → has_head_of a.heads row ≡ b
-            → Climbs way tree (class_for tree events) (cond b a (new_head tree Arrived row (suc i) (length_word events i) row a)) (cond b 0 row)
-            (depth tree (cond b 0 row)) f
+            → Climbs Filed tree (class_for tree events) (cond b a (new_head tree Arrived row (suc i) (length_word events i) row a)) (cond b 0 row)
+            (depth tree (cond b 0 row))
         go true has = record { sound = sound; inside = sound.some_rows; deep = refl; filed = coming.now.filed }
         go false has =
             record {
@@ -162,11 +159,11 @@ module _
               inside = sender.inside;
               deep = refl;
               filed =
-                  headed way tree sound (class_for tree events) Arrived row (suc i) (length_word events i) row a f sender (has_false a row (head_part a row ∙ has))
+                  kept_filed.headed tree sound (class_for tree events) Arrived row (suc i) (length_word events i) row a sender (has_false a row (head_part a row ∙ has))
                   (own_packet tree sound (class_for tree events) row (suc i) sender (sym (row_arrives is))) coming.now.filed;
             }
 
-    pub front_leeway : Leeway most_climb front
+    front_leeway : Leeway most_climb front
     unfolding front_rows
     front_leeway = go (has_head_of a.heads row)
       where
@@ -200,15 +197,15 @@ module _
     arrival_sent b rows = rw next_arrival (ap (λ (xs : List ℕ). box.order ++ xs) (sent_arrived box.rows _ ∙ rw (rows, coming.now.rows_are)))
 
     pub arrived :
-        (from' : ℕ) (b : Rows) (held' since' parent_since' lasts' links' : List ℕ) → from' ≡ from → b ≡ front
-        → Counts (arrival tree i row (length_word events i) box) bytes held' since' parent_since'
+        {F : Type 0} (filed_by : F → Filing) → Keeps Filed → (from' : ℕ) (b : Rows) (c' : CountArrays) (lasts' links' : List ℕ) → from' ≡ from → b ≡ front
+        → Counts (arrival tree i row (length_word events i) box) c'
         → lasts' ≡ set lasts row (i + 1) → links' ≡ followed links (get_or lasts row 0) (i + 1)
-        → Fronted way tree events i sent_before f order Arrived from' (depth tree from') (eqb (head a 0) 0) b bytes held' since' parent_since' lasts' links links'
-    arrived from' b held' since' parent_since' lasts' links' begun fronted counts lasts_is links_is =
+        → Fronted Filed filed_by tree events i sent_before order Arrived from' (depth tree from') (eqb (head a 0) 0) b c' lasts' links links'
+    arrived filed_by kept_filed from' b c' lasts' links' begun fronted counts lasts_is links_is =
         record {
-          climbs = rw (begun, fronted) front_climbs;
+          climbs = rw (begun, fronted) (front_climbs kept_filed);
           leeway = rw fronted front_leeway;
-          over = λ end g sent_after order' settles order_is sent_is.
+          over = λ end f sent_after order' settles order_is sent_is.
               let rows : (arrival tree i row (length_word events i) box).rows ≡ end = sym (settles.rows_are ∙ rw (begun, fronted) up_arrival) in
               record {
                 now =
@@ -335,25 +332,25 @@ module _
       none_left =
           (leaves_on tree sound a full (line_class box) line_sends.inside (line_class box) line_sends.inside (self_within tree sound (line_class box))).none
 
-      gone_filed : Filed way tree (class_for tree events) gone 0 f
-      gone_filed =
-          rw (← class_is) (line_left way tree sound (class_for tree events) a f settled (λ e. busy (rw coming.now.rows_are e)) coming.now.filed)
+      gone_filed : Keeps Filed → Filed tree (class_for tree events) gone 0
+      gone_filed kept_filed =
+          rw (← class_is) (kept_filed.line_left tree sound (class_for tree events) a settled (λ e. busy (rw coming.now.rows_are e)) coming.now.filed)
 
-      onward_filed : (later : List Packet) → Chain tree events links (line_class box) later → Filed way tree (class_for tree events) (renews tree (line_class box) later gone) (line_class box) f
+      onward_filed : Keeps Filed → (later : List Packet) → Chain tree events links (line_class box) later → Filed tree (class_for tree events) (renews tree (line_class box) later gone) (line_class box)
       unfolding renews Chain
-      onward_filed [] linked = set_aside way tree sound (class_for tree events) gone (line_class box) f none_left gone_filed
-      onward_filed (packet ∷ later) linked =
-          headed way tree sound (class_for tree events) Finished (line_class box) (suc packet.place) packet.length (line_class box) gone f line_sends none_left
-          (own_packet tree sound (class_for tree events) (line_class box) (suc packet.place) line_sends linked.1) gone_filed
+      onward_filed kept_filed [] linked = kept_filed.set_aside tree sound (class_for tree events) gone (line_class box) none_left (gone_filed kept_filed)
+      onward_filed kept_filed (packet ∷ later) linked =
+          kept_filed.headed tree sound (class_for tree events) Finished (line_class box) (suc packet.place) packet.length (line_class box) gone line_sends none_left
+          (own_packet tree sound (class_for tree events) (line_class box) (suc packet.place) line_sends linked.1) (gone_filed kept_filed)
 
-      pub onward_climbs : Climbs way tree (class_for tree events) onward (line_class box) (depth tree (line_class box)) f
+      onward_climbs : Keeps Filed → Climbs Filed tree (class_for tree events) onward (line_class box) (depth tree (line_class box))
       unfolding Chain
-      onward_climbs =
+      onward_climbs kept_filed =
           record {
             sound = sound;
             inside = line_sends.inside;
             deep = refl;
-            filed = rw rest (onward_filed line.later chain.3);
+            filed = rw rest (onward_filed kept_filed line.later chain.3);
           }
 
       onward_leeway : Leeway most_climb onward
@@ -363,17 +360,17 @@ module _
           rw (renews_first, next_packet) (renews_leeway tree (line_class box) gone most_climb next (length_of events.lengths next) next_length enough)
 
       pub finished :
-          (class class' : ℕ) (b : Rows) (bytes' held' lasts' : List ℕ) → class' ≡ head_class a 0 → b ≡ renews tree class' (left box) (leaves tree class' a)
-          → Counts (departure tree box) bytes' held' since parent_since
+          {F : Type 0} (filed_by : F → Filing) → Keeps Filed → (class class' : ℕ) (b : Rows) (c' : CountArrays) (lasts' : List ℕ) → class' ≡ head_class a 0 → b ≡ renews tree class' (left box) (leaves tree class' a)
+          → Counts (departure tree box) c'
           → class ≡ head_class a 0 → lasts' ≡ shortened lasts class next
-          → Fronted way tree events i sent_before f order Finished class' (depth tree class') true b bytes' held' since parent_since lasts' links links
-      finished class class' b bytes' held' lasts' begun fronted counts class_read lasts_is =
+          → Fronted Filed filed_by tree events i sent_before order Finished class' (depth tree class') true b c' lasts' links links
+      finished filed_by kept_filed class class' b c' lasts' begun fronted counts class_read lasts_is =
           let at : class' ≡ line_class box = begun ∙ class_is in
           let on : b ≡ onward = fronted ∙ rw at in
           record {
-            climbs = rw (at, on) onward_climbs;
+            climbs = rw (at, on) (onward_climbs kept_filed);
             leeway = rw on onward_leeway;
-            over = λ end g sent_after order' settles order_is sent_is.
+            over = λ end f sent_after order' settles order_is sent_is.
                 let rows : (departure tree box).rows ≡ end = sym (settles.rows_are ∙ rw (at, on) up_departure) in
                 record {
                   now =

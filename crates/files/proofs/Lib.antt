@@ -1,4 +1,3 @@
 -- What is proved of reading and of pages apart from the code.
 pub mod Bytes
 pub mod Room
-pub mod Judging

@@ -1,18 +1,16 @@
--- What is used of a page stays within it, and the page that the sentences are put on has room for each of them.
+-- The page that the sentences are put on has room for each of them.
 -- Assumes nothing.
 use Prim.Native.Nat.{ℕ, ◌+◌, ◌-◌, ◌^◌, ◌≤◌, min}
-use mathlib.Core.Path.{◌≡◌, refl, sym, ap, ◌∙◌, subst}
+use mathlib.Core.Path.{◌≡◌, refl, ap, ◌∙◌}
 use mathlib.Core.Bool.{Bool, true, false, cond}
-use mathlib.Core.List.{List, [], ◌∷◌}
+use mathlib.Core.List.{List, ◌++◌}
 use native.Mathlib.Omega.{arith}
-use lib.Dec.{ltb}
-use lib.ListN.{length, take, drop, length-append, length-set}
+use lib.ListN.{length, take, drop, length-append}
 use lib.Seq.{take_at}
-use borrow.Author.Tests.{ltb-true}
-use Rattle.text.specs.declared.Found.{Found}
-use Rattle.text.specs.declared.Found.TheVariants.{Nothing, Row, NoEnd, WrongHeading, WrongCount, NoNumber, TooLarge}
+use Rattle.text.specs.declared.Fault.{Fault}
+use Rattle.text.specs.declared.Fault.TheVariants.{NoEnd, WrongHeading, WrongCount, NoNumber, TooLarge}
 use Rattle.text.specs.Reading.{most}
-use Rattle.output.specs.Pages.{Page, page_of, with_byte, with_text, Puts}
+use Rattle.output.specs.Pages.{Page, page_of, with_text, Puts}
 use Rattle.output.proofs.Pages.{with_all}
 use Rattle.output.proofs.Numbers.{decimal_length}
 use Rattle.sentences.specs.Files.{is_input, shown}
@@ -23,42 +21,19 @@ use Rattle.files.specs.declared.Unwritten.TheVariants as unwritten_by
 use Rattle.files.specs.Sentences.{unread, why, cannot_open, why_unwritten, cannot_write, too_long, field, too_large, fault, line_after, cannot_read}
 use Rattle.output.specs.Quoted.{bytes_of}
 
--- ── any text ──
-
-abbrev Within : Page → Type 0
-Within page = page.used ≤ length page.bytes
-
-byte_within : (page : Page) (byte : ℕ) → Within page → Within (with_byte page byte)
-unfolding with_byte
-byte_within page byte within = go (ltb page.used (length page.bytes)) refl
-  where
-    go : (b : Bool) → ltb page.used (length page.bytes) ≡ b → Within (with_byte page byte)
-    go true e = let inside = ltb-true page.used (length page.bytes) e in rw (e, length-set) (omega arith)
-    go false e = rw e within
-
-text_within : (page : Page) (text : List ℕ) → Within page → Within (with_text page text)
-unfolding with_text
-text_within page [] within = within
-text_within page (byte ∷ text) within = text_within (with_byte page byte) text (byte_within page byte within)
-
--- of what is put on a page from its start
-pub put_within : (text bytes bytes' : List ℕ) (used : ℕ) → Puts text bytes 0 bytes' used → used ≤ length bytes'
-put_within text bytes bytes' used put = subst Within (sym put) (text_within (page_of bytes 0) text (omega arith))
-
 -- where there is room, what is used of the page is the text
 put_whole :
-    (text bytes bytes' : List ℕ) (used : ℕ) → Puts text bytes 0 bytes' used → length text ≤ length bytes
-    → take used bytes' ≡ text
-put_whole text bytes bytes' used put room =
-    let over = put ∙ with_all bytes text room in
-    ap (λ (page : Page). take page.used page.bytes) over ∙ take_at text (drop (length text) bytes) (length text) refl
+    (text : List ℕ) (page page' : Page) → page.used ≡ 0 → Puts text page page' → length text ≤ length page.bytes
+    → take page'.used page'.bytes ≡ text
+put_whole text page page' blank put room =
+    let over : with_text page text ≡ page_of (text ++ drop (length text) page.bytes) (length text) =
+    ap (λ (used : ℕ). with_text (page_of page.bytes used) text) blank ∙ with_all page.bytes text room in
+    ap (λ (page : Page). take page.used page.bytes) (put ∙ over) ∙ take_at text (drop (length text) page.bytes) (length text) refl
 
 -- ── the sentences ──
 
-fault_length : (found : Found) → length (fault found) ≤ 100
+fault_length : (wrong : Fault) → length (fault wrong) ≤ 100
 unfolding bytes_of field too_large fault
-fault_length Nothing = omega arith
-fault_length (Row a b) = omega arith
 fault_length NoEnd = omega arith
 fault_length WrongHeading = omega arith
 fault_length WrongCount = omega arith
@@ -89,24 +64,24 @@ long_length : (name : List ℕ) (held : ℕ) → length (too_long name held) ≤
 unfolding bytes_of unread too_long
 long_length name held = simp length-append (omega (arith, shown_length name, decimal_length held))
 
-read_length : (name : List ℕ) (lines : ℕ) (found : Found) → length (cannot_read name lines found) ≤ length name + 200
+read_length : (name : List ℕ) (lines : ℕ) (wrong : Fault) → length (cannot_read name lines wrong) ≤ length name + 200
 unfolding bytes_of unread line_after cannot_read
-read_length name lines found =
-    simp length-append (omega (arith, shown_length name, decimal_length (min (lines + 1) (2 ^ 64 - 1)), fault_length found))
+read_length name lines wrong =
+    simp length-append (omega (arith, shown_length name, decimal_length (min (lines + 1) (2 ^ 64 - 1)), fault_length wrong))
 
 -- an argument is read into 131,072 bytes
-module _ (name bytes bytes' : List ℕ) (used : ℕ) (short : length name ≤ 131072) (room : length bytes ≡ 131584) where
-  pub opened_whole : (reason : Unread) → Puts (cannot_open name reason) bytes 0 bytes' used → take used bytes' ≡ cannot_open name reason
-  opened_whole reason put = put_whole (cannot_open name reason) bytes bytes' used put (omega (arith, open_length name reason))
+module _ (name : List ℕ) (page page' : Page) (short : length name ≤ 131072) (blank : page.used ≡ 0) (room : length page.bytes ≡ 131584) where
+  pub opened_whole : (reason : Unread) → Puts (cannot_open name reason) page page' → take page'.used page'.bytes ≡ cannot_open name reason
+  opened_whole reason put = put_whole (cannot_open name reason) page page' blank put (omega (arith, open_length name reason))
 
-  pub long_whole : (held : ℕ) → Puts (too_long name held) bytes 0 bytes' used → take used bytes' ≡ too_long name held
-  long_whole held put = put_whole (too_long name held) bytes bytes' used put (omega (arith, long_length name held))
+  pub long_whole : (held : ℕ) → Puts (too_long name held) page page' → take page'.used page'.bytes ≡ too_long name held
+  long_whole held put = put_whole (too_long name held) page page' blank put (omega (arith, long_length name held))
 
   pub read_whole :
-      (lines : ℕ) (found : Found) → Puts (cannot_read name lines found) bytes 0 bytes' used
-      → take used bytes' ≡ cannot_read name lines found
-  read_whole lines found put =
-      put_whole (cannot_read name lines found) bytes bytes' used put (omega (arith, read_length name lines found))
+      (lines : ℕ) (wrong : Fault) → Puts (cannot_read name lines wrong) page page'
+      → take page'.used page'.bytes ≡ cannot_read name lines wrong
+  read_whole lines wrong put =
+      put_whole (cannot_read name lines wrong) page page' blank put (omega (arith, read_length name lines wrong))
 
 written_length : (reason : Unwritten) → length (why_unwritten reason) ≤ 60
 unfolding bytes_of why_unwritten
@@ -119,7 +94,7 @@ unfolding bytes_of cannot_write
 write_length reason = simp length-append (omega (arith, written_length reason))
 
 pub written_whole :
-    (bytes bytes' : List ℕ) (used : ℕ) → length bytes ≡ 128 → (reason : Unwritten) → Puts (cannot_write reason) bytes 0 bytes' used
-    → take used bytes' ≡ cannot_write reason
-written_whole bytes bytes' used room reason put =
-    put_whole (cannot_write reason) bytes bytes' used put (omega (arith, write_length reason))
+    (page page' : Page) → page.used ≡ 0 → length page.bytes ≡ 128 → (reason : Unwritten) → Puts (cannot_write reason) page page'
+    → take page'.used page'.bytes ≡ cannot_write reason
+written_whole page page' blank room reason put =
+    put_whole (cannot_write reason) page page' blank put (omega (arith, write_length reason))

@@ -1,9 +1,9 @@
 -- What is said of a file that cannot be read, and of results that cannot be written.
-use Rattle.std.specs.Prelude.{ℕ, ◌+◌, ◌-◌, ◌^◌, min, List, [], ◌++◌}
+use Rattle.std.specs.Prelude.{ℕ, ◌+◌, ◌-◌, ◌^◌, min, List, ◌++◌}
 use Rattle.output.specs.Numbers.{decimal}
 use Rattle.output.specs.Quoted.{bytes_of}
-use Rattle.text.specs.declared.Found.{Found}
-use Rattle.text.specs.declared.Found.TheVariants.{Nothing, Row, NoEnd, WrongHeading, WrongCount, NoNumber, TooLarge}
+use Rattle.text.specs.declared.Fault.{Fault}
+use Rattle.text.specs.declared.Fault.TheVariants.{NoEnd, WrongHeading, WrongCount, NoNumber, TooLarge}
 use Rattle.text.specs.Reading.{most}
 use Rattle.sentences.specs.Files.{shown}
 use Rattle.files.specs.declared.Unread.{Unread}
@@ -47,9 +47,7 @@ unfoldable pub too_large : ℕ → List ℕ
 too_large place = field place (bytes_of " is over ") ++ decimal most
 
 -- what is wrong with a line
-unfoldable pub fault : Found → List ℕ
-fault Nothing = []
-fault (Row a b) = []
+unfoldable pub fault : Fault → List ℕ
 fault NoEnd = bytes_of "the line has no end"
 fault WrongHeading = bytes_of "the heading must be class,length"
 fault WrongCount = bytes_of "2 numbers are wanted"
@@ -60,5 +58,5 @@ fault (TooLarge place) = too_large place
 unfoldable pub line_after : ℕ → List ℕ
 line_after lines = bytes_of ", line " ++ (decimal (min (lines + 1) (2 ^ 64 - 1)) ++ bytes_of ": ")
 
-unfoldable pub cannot_read : List ℕ → ℕ → Found → List ℕ
-cannot_read name lines found = unread name ++ (line_after lines ++ (fault found ++ bytes_of "\n"))
+unfoldable pub cannot_read : List ℕ → ℕ → Fault → List ℕ
+cannot_read name lines wrong = unread name ++ (line_after lines ++ (fault wrong ++ bytes_of "\n"))

@@ -1,38 +1,75 @@
 // Reading a class table's file into its rows.
-ghost use Rattle.std.specs.Prelude.{◌≡◌, take};
 ghost use Rattle.input.specs.Lent.{table_of};
 ghost use Rattle.files.specs.Tables.{LoadsTable};
 
-use crate::ending::{STDERR_FILENO, begin_refusal, refused};
-use crate::handing::{hand_over, print_answer};
-use crate::reading::none;
+use crate::Stopped;
+use crate::ending::begin_refusal;
+use crate::handing::{print_answer, say};
+use crate::reading::first;
 use crate::whole::load_text;
-use crate::{Loaded, Status};
-use input::{Answer, Refusal};
-use sentences::{HELD_BYTES, SENTENCE_BYTES};
+use input::Refusal;
+use output::Page;
+use sentences::{Columns, HELD_BYTES, HELD_ROWS, SENTENCE_BYTES};
 use std::rt::{Env, Files};
 
-// Reads the table that an argument names. Of a text with a fault it prints the answer and, once that is written, says to standard
-// error what to mend. Where the slices have no room for all rows these are counted, and none is kept.
+// A table that was read: how many rows its file has, and the first of these, as many as there is room for.
+#[derive(Drop)]
+pub struct Table {
+    pub rows: u64,
+    identifiers: [u32; HELD_ROWS],
+    parents: [u32; HELD_ROWS],
+    shares: [u32; HELD_ROWS],
+}
+
+impl Table {
+    pub fn load(
+        rt: &(impl Env + Files + Input + Print),
+        argument: usize,
+    ) -> Result<Table, Stopped> {
+        let mut table = Table {
+            rows: 0,
+            identifiers: [0; HELD_ROWS],
+            parents: [0; HELD_ROWS],
+            shares: [0; HELD_ROWS],
+        };
+        table.rows = load_table(
+            rt,
+            argument,
+            &mut table.identifiers,
+            &mut table.parents,
+            &mut table.shares,
+        )?;
+        Ok(table)
+    }
+
+    pub fn columns(&self) -> Columns<'_> {
+        Columns {
+            identifiers: first(&self.identifiers, self.rows),
+            parents: first(&self.parents, self.rows),
+            shares: first(&self.shares, self.rows),
+        }
+    }
+}
+
+// Reads the table that an argument names, and answers how many rows it has. Of a text with a fault it prints the answer and, once that
+// is written, says to standard error what to mend. Where the slices have no room for all rows these are counted, and none is kept.
 pub fn load_table(
     rt: &(impl Env + Files + Input + Print),
     argument: usize,
     identifiers: &mut [u32],
     parents: &mut [u32],
     shares: &mut [u32],
-) -> Loaded
+) -> Result<u64, Stopped>
     ensures { LoadsTable (table_of identifiers.old parents.old shares.old)
         (table_of identifiers.new parents.new shares.new) result }
 {
     let mut text = [0u8; HELD_BYTES];
-    let held = load_text(rt, argument, &mut text);
-    if held.good {
-        return read_held(rt, argument, &text, held.size, identifiers, parents, shares);
-    }
-    none()
+    let size = load_text(rt, argument, &mut text)?;
+    read_held(rt, argument, &text, size, identifiers, parents, shares)
 }
 
 // The rows of a text of so many bytes, of which these were read from the file that an argument names.
+#[tactic(auto, unfolding(crate::specs::Tables::loaded))]
 fn read_held(
     rt: &(impl Env + Print),
     argument: usize,
@@ -41,66 +78,40 @@ fn read_held(
     identifiers: &mut [u32],
     parents: &mut [u32],
     shares: &mut [u32],
-) -> Loaded
+) -> Result<u64, Stopped>
     ensures { LoadsTable (table_of identifiers.old parents.old shares.old)
         (table_of identifiers.new parents.new shares.new) result }
 {
-    let read = csv_text::read_rows(text, size, identifiers, parents, shares);
-    let fault = read.fault;
-    if fault.number == 0 {
-        return Loaded {
-            status: Status::Done,
-            rows: read.rows,
-        };
-    }
-    let written = tell(rt, argument, fault, text, size);
-    Loaded {
-        status: refused(written),
-        rows: 0,
+    match csv_text::read_rows(text, size, identifiers, parents, shares) {
+        Ok(counted) => Ok(counted.rows),
+        Err(fault) => Err(tell(rt, argument, fault, text, size)),
     }
 }
 
-// The fault of such a text; answers whether its answer was written.
+// The fault of such a text.
 fn tell(
     rt: &(impl Env + Print),
     argument: usize,
     fault: Refusal,
     text: &[u8],
     size: usize,
-) -> bool {
-    let answer = Answer {
-        number: fault.number,
-        place: fault.place,
-        second: fault.second,
-        count: 0,
-    };
-    if !print_answer(rt, answer) {
-        return false;
+) -> Stopped {
+    if let Err(stopped) = print_answer(rt, Err(fault)) {
+        return stopped;
     }
     say_fault(rt, argument, fault, text, size);
-    true
+    Stopped::Refused
 }
 
 // Says what to mend, to standard error.
 pub fn say_fault(rt: &impl Env, argument: usize, fault: Refusal, text: &[u8], size: usize) {
-    let mut page = [0u8; SENTENCE_BYTES];
-    let used = begin_refusal(rt, &mut page, fault.number, argument);
-    let used = sentences::fault_sentence(
+    let mut page: Page<SENTENCE_BYTES> = Page::blank();
+    begin_refusal(rt, &mut page, fault.number, argument);
+    sentences::fault_sentence(
         &mut page,
-        used,
         fault.number,
         fault.place,
-        first_bytes(text, size),
+        first(text, size as u64),
     );
-    hand_over(STDERR_FILENO, &page, used);
-}
-
-// The first bytes, or all where there are no more.
-pub fn first_bytes(text: &[u8], size: usize) -> &[u8]
-    ensures { result.now ≡ take size text.now }
-{
-    if size < text.len() {
-        return &text[..size];
-    }
-    text
+    say(&page);
 }

@@ -2,55 +2,45 @@
 ghost use Rattle.std.specs.Prelude.{◌≡◌};
 ghost use Rattle.files.specs.Statuses as statuses;
 
-use crate::Status;
+use crate::Stopped;
 use crate::arguments::argument;
+use crate::handing::say_text;
+use output::Page;
 use sentences::put_refused;
 use std::rt::Env;
 
 // No program has so many arguments.
 pub const NO_FILE: usize = usize::MAX;
 
-// Standard error.
-pub const STDERR_FILENO: i32 = 2;
-
-// Where a program that is started by a script hands over how it ended; it has no exit status of its own.
+// Where a program that is started by a script hands over how it ended.
 const STATUS_FILENO: i32 = 3;
 
 // Says a sentence of a call that is not understood.
-pub fn complain(sentence: &[u8]) -> Status {
-    io::write_all(STDERR_FILENO, sentence);
-    Status::Failed
-}
-
-// How a refusal ends, whose answer was written or not.
-pub fn refused(written: bool) -> Status
-    ensures { result ≡ statuses.refused written }
-{
-    if written {
-        Status::Refused
-    } else {
-        Status::Failed
-    }
+pub fn complain(sentence: &[u8]) -> Stopped {
+    say_text(sentence);
+    Stopped::Failed
 }
 
 // Begins the sentence on a refusal of what the file that an argument names holds. A file that was read has a name of less than 4,096 bytes.
-pub fn begin_refusal(rt: &impl Env, page: &mut [u8], number: u32, place: usize) -> usize {
+pub fn begin_refusal<const N: usize>(rt: &impl Env, page: &mut Page<N>, number: u32, place: usize) {
     let mut name = [0u8; 4096];
     let length = argument(rt, place, &mut name);
-    put_refused(page, 0, number, &name[..length])
+    put_refused(page, number, &name[..length]);
 }
 
-// The last act of a program. Whoever wants no status leaves the descriptor closed.
-pub fn end_with(status: Status) {
-    io::write_all(STATUS_FILENO, &[digit(status), 10]);
+// The last act of a program: it hands over how it ended to the script that started it, and has no exit status of its own, since the script
+// tells by that whether it came so far. Whoever wants no status leaves the descriptor closed.
+pub fn end_with(ended: Result<(), Stopped>) {
+    io::write_all(STATUS_FILENO, &[digit(ended), 10]);
 }
 
-fn digit(status: Status) -> u8
-    ensures { result ≡ statuses.digit status }
+#[tactic(auto, unfolding(crate::specs::Statuses::digit))]
+fn digit(ended: Result<(), Stopped>) -> u8
+    ensures { result ≡ statuses.digit ended }
 {
-    match status {
-        Status::Done => 48,
-        Status::Refused => 49,
-        Status::Failed => 50,
+    match ended {
+        Ok(()) => b'0',
+        Err(Stopped::Refused) => b'1',
+        Err(Stopped::Failed) => b'2',
     }
 }

@@ -1,35 +1,29 @@
 // Handing what is put on a page over to the system.
-use crate::errors;
-use crate::errors::EINVAL;
+use crate::Stopped;
 use crate::writing::cannot_write;
-use input::Answer;
+use input::Refusal;
+use output::Page;
 
-// Writes what is used of the page, and answers whether all of it was written.
-pub fn hand_over(to: i32, page: &[u8], used: usize) -> bool {
-    if used <= page.len() {
-        return io::write_all(to, &page[..used]);
-    }
-    false
+// Standard error.
+const STDERR_FILENO: i32 = 2;
+
+// Says what is on the page, to standard error.
+pub fn say<const N: usize>(page: &Page<N>) {
+    say_text(page.text());
 }
 
-// Prints what is used of the page; where it cannot be written, that is said. Answers whether it was written.
-pub fn print(rt: &impl Print, page: &[u8], used: usize) -> bool {
-    if page.len() < used {
-        cannot_write(EINVAL);
-        return false;
-    }
-    match rt.write_all(&page[..used]) {
-        Ok(()) => true,
-        Err(error) => {
-            cannot_write(errors::number(error));
-            false
-        }
-    }
+pub fn say_text(text: &[u8]) {
+    io::write_all(STDERR_FILENO, text);
 }
 
-// Prints an answer's two lines, and answers whether they were written.
-pub fn print_answer(rt: &impl Print, answer: Answer) -> bool {
-    let mut page = [0u8; 512];
-    let used = lines::put_answer(&mut page, 0, answer);
-    print(rt, &page, used)
+// Prints what is on the page; where it cannot be written, that is said.
+pub fn print<const N: usize>(rt: &impl Print, page: &Page<N>) -> Result<(), Stopped> {
+    rt.write_all(page.text()).map_err(cannot_write)
+}
+
+// Prints an answer's two lines.
+pub fn print_answer(rt: &impl Print, answer: Result<u32, Refusal>) -> Result<(), Stopped> {
+    let mut page: Page<512> = Page::blank();
+    lines::put_answer(&mut page, answer);
+    print(rt, &page)
 }

@@ -1,5 +1,5 @@
 // Opening the file that a name stands for, which may be standard input.
-use crate::Status;
+use crate::Stopped;
 use crate::arguments::argument;
 use crate::ending::complain;
 use crate::errors::EILSEQ;
@@ -30,32 +30,23 @@ pub fn open<R: Files + Input>(rt: &R, name: &[u8]) -> io::Result<Opened<R::File,
         return Ok(Opened::Input(rt.reader()));
     }
     match str::from_utf8(name) {
-        Ok(text) => {
-            let file = fs::open(rt, text)?;
-            Ok(Opened::File(file))
-        }
+        Ok(text) => Ok(Opened::File(fs::open(rt, text)?)),
         Err(error) => Err(unopened(rt, name, error.valid_up_to())),
     }
 }
 
 // A name as the text that std makes a file of. One that is none is refused, as by file systems that take text alone.
 pub fn text_of(name: &[u8]) -> io::Result<&str> {
-    match str::from_utf8(name) {
-        Ok(text) => Ok(text),
-        Err(_) => Err(io::Error::from_raw_os_error(EILSEQ)),
-    }
+    str::from_utf8(name).map_err(|_| io::Error::from_raw_os_error(EILSEQ))
 }
 
 // Whether both of the first two arguments stand for standard input.
 pub fn input_twice(rt: &impl Env) -> bool {
-    if argument_is_input(rt, 1) {
-        return argument_is_input(rt, 2);
-    }
-    false
+    argument_is_input(rt, 1) && argument_is_input(rt, 2)
 }
 
 // Says that they do.
-pub fn twice() -> Status {
+pub fn twice() -> Stopped {
     complain(b"cannot read: standard input is named twice; give one of the two as a file\n")
 }
 

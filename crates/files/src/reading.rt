@@ -1,24 +1,25 @@
 // Reading a list of events into columns.
-ghost use Rattle.std.specs.Prelude.{◌≡◌, false, cond, ◌-◌, set, take};
+ghost use Rattle.std.specs.Prelude.{◌≡◌, set, take};
 ghost use Rattle.text.specs.Reading.{unread};
 ghost use Rattle.files.specs.Columns as columns;
 
+use crate::Stopped;
 use crate::arguments::argument;
 use crate::opening::open;
 use crate::unreadable::{cannot_open, cannot_read};
-use crate::{Loaded, Status, Turn, errors};
+use std::io;
 use std::io::Read;
 use std::rt::{Env, Files};
-use text::{Found, Scan};
+use text::Scan;
 
-// Reads the file that an argument names, and says what is wrong with it if something is. The longest argument that the system
-// passes has 131,071 bytes. Lines past the end of the columns are counted and not kept.
+// Reads the file that an argument names, and says what is wrong with it if something is; answers how many lines of numbers it has. The
+// longest argument that the system passes has 131,071 bytes. Lines past the end of the columns are counted and not kept.
 pub fn load(
     rt: &(impl Env + Files + Input),
     place: usize,
     first: &mut [u32],
     second: &mut [u32],
-) -> Loaded
+) -> Result<u64, Stopped>
     ensures { columns.Loads first.old second.old first.new second.new result }
 {
     let mut name = [0u8; 131072];
@@ -31,111 +32,75 @@ fn load_named(
     name: &[u8],
     first: &mut [u32],
     second: &mut [u32],
-) -> Loaded
+) -> Result<u64, Stopped>
     ensures { columns.Loads first.old second.old first.new second.new result }
 {
-    let end = read_file(rt, name, first, second);
-    judged(name, end)
+    match read_file(rt, name, first, second) {
+        Ok(scan) => judged(name, scan),
+        Err(error) => Err(cannot_open(name, error)),
+    }
 }
 
 // What came of reading a file to its end.
-pub fn judged(name: &[u8], end: Turn) -> Loaded
-    ensures { result ≡ cond end.failed columns.none (columns.judged end.scan) }
+#[tactic(auto, unfolding(crate::specs::Columns::judged))]
+pub fn judged(name: &[u8], scan: Scan) -> Result<u64, Stopped>
+    ensures { result ≡ columns.judged scan }
 {
-    if end.failed {
-        cannot_open(name, end.error);
-        return none();
-    }
-    let scan = end.scan;
-    let found = text::finish(scan);
-    if text::wrong(found) {
-        cannot_read(name, scan.lines, found);
-        return none();
-    }
-    Loaded {
-        status: Status::Done,
-        rows: one_less(scan.lines),
+    match scan.finish() {
+        Ok(()) => Ok(scan.lines.saturating_sub(1)),
+        Err(fault) => Err(cannot_read(name, scan.lines, fault)),
     }
 }
 
-pub fn none() -> Loaded
-    ensures { result ≡ columns.none }
+fn read_file(
+    rt: &(impl Files + Input),
+    name: &[u8],
+    first: &mut [u32],
+    second: &mut [u32],
+) -> io::Result<Scan>
+    ensures { columns.Reads unread first.old second.old first.new second.new result }
 {
-    Loaded {
-        status: Status::Failed,
-        rows: 0,
-    }
+    let mut file = open(rt, name)?;
+    read_all(&mut file, Scan::begin(), first, second)
 }
 
-fn one_less(n: u64) -> u64
-    ensures { result ≡ n - 1 }
+// Reads to the end of the file. A loop has to end, and nothing says that a file does, so this one has a number of turns that no run uses
+// up.
+fn read_all(
+    file: &mut impl Read,
+    start: Scan,
+    first: &mut [u32],
+    second: &mut [u32],
+) -> io::Result<Scan>
+    ensures { columns.Reads start first.old second.old first.new second.new result }
 {
-    if n == 0 { 0 } else { n - 1 }
-}
-
-fn read_file(rt: &(impl Files + Input), name: &[u8], first: &mut [u32], second: &mut [u32]) -> Turn
-    ensures { columns.Filled (columns.columns_of unread first.old second.old)
-        (columns.columns_of result.scan first.new second.new) }
-{
-    let start = text::begin();
-    match open(rt, name) {
-        Ok(mut file) => read_all(&mut file, start, first, second),
-        Err(error) => ended(true, errors::number(error), start),
-    }
-}
-
-// No more comes.
-fn ended(failed: bool, error: i32, scan: Scan) -> Turn
-    ensures { result ≡ record { more = false; failed = failed; error = error; scan = scan } }
-{
-    Turn {
-        more: false,
-        failed,
-        error,
-        scan,
-    }
-}
-
-// Reads to the end of the file. A loop has to end, and nothing says that a file does, so this one counts its turns down from a
-// number that no run uses up.
-fn read_all(file: &mut impl Read, start: Scan, first: &mut [u32], second: &mut [u32]) -> Turn
-    ensures { columns.Filled (columns.columns_of start first.old second.old)
-        (columns.columns_of result.scan first.new second.new) }
-{
-    let mut turn = Turn {
-        more: true,
-        failed: false,
-        error: 0,
-        scan: start,
-    };
-    let mut turns = u64::MAX;
-    while turns > 0 {
-        if !turn.more {
-            return turn;
+    let mut scan = start;
+    for _ in 0..u64::MAX {
+        match read_some(file, scan, first, second)? {
+            Some(next) => scan = next,
+            None => return Ok(scan),
         }
-        let scan = turn.scan;
-        turn = read_some(file, scan, first, second);
-        turns -= 1;
     }
-    turn
+    Ok(scan)
 }
 
 // One read, of at most 65,536 bytes. Where it gives none, no more comes.
-pub fn read_some(file: &mut impl Read, scan: Scan, first: &mut [u32], second: &mut [u32]) -> Turn
+#[tactic(auto, unfolding(crate::specs::Columns::scan_after))]
+pub fn read_some(
+    file: &mut impl Read,
+    scan: Scan,
+    first: &mut [u32],
+    second: &mut [u32],
+) -> io::Result<Option<Scan>>
     ensures { columns.Filled (columns.columns_of scan first.old second.old)
-        (columns.columns_of result.scan first.new second.new) }
+        (columns.columns_of (columns.scan_after scan result) first.new second.new) }
 {
     let mut buffer = [0u8; 65536];
-    match file.read(&mut buffer) {
-        Ok(0) => ended(false, 0, scan),
-        Ok(n) => Turn {
-            more: true,
-            failed: false,
-            error: 0,
-            scan: read_bytes(scan, &buffer[..n], first, second),
-        },
-        Err(error) => ended(true, errors::number(error), scan),
+    let size = file.read(&mut buffer)?;
+    if size == 0 {
+        return Ok(None);
     }
+    Ok(Some(read_bytes(scan, &buffer[..size], first, second)))
 }
 
 // Reads these bytes.
@@ -144,29 +109,23 @@ fn read_bytes(scan: Scan, bytes: &[u8], first: &mut [u32], second: &mut [u32]) -
         ≡ columns.with_bytes (columns.columns_of scan first.old second.old) bytes.now }
 {
     let mut scan = scan;
-    let mut i = 0;
-    while i < bytes.len() {
-        scan = step(scan, bytes[i], first, second);
-        i += 1;
+    for byte in bytes {
+        scan = step(scan, *byte, first, second);
     }
     scan
 }
 
 // One byte, and the numbers of the line that it ends, if it ends one.
+#[tactic(auto, unfolding(crate::specs::Columns::with_byte, crate::specs::Columns::keeping))]
 fn step(scan: Scan, byte: u8, first: &mut [u32], second: &mut [u32]) -> Scan
     ensures { columns.columns_of result first.new second.new
         ≡ columns.with_byte (columns.columns_of scan first.old second.old) byte }
 {
-    let next = text::feed(scan, byte);
-    let found = next.found;
-    if let Found::Row {
-        first: a,
-        second: b,
-    } = found
-    {
+    let next = scan.feed(byte);
+    if let Ok(Some(row)) = next.found {
         let place = row_of(next.lines);
-        keep(first, place, a);
-        keep(second, place, b);
+        keep(first, place, row.first);
+        keep(second, place, row.second);
     }
     next
 }
@@ -175,10 +134,10 @@ fn step(scan: Scan, byte: u8, first: &mut [u32], second: &mut [u32]) -> Scan
 fn row_of(lines: u64) -> usize
     ensures { result ≡ columns.row_of lines }
 {
-    if lines < 2 { 0 } else { (lines - 2) as usize }
+    lines.saturating_sub(2) as usize
 }
 
-// The number at its place, where the column has it.
+// The number at its place, where the column has it. By `get_mut` the proof did not close.
 pub fn keep(column: &mut [u32], place: usize, n: u32)
     ensures { column.new ≡ set column.old place n }
 {
@@ -187,12 +146,12 @@ pub fn keep(column: &mut [u32], place: usize, n: u32)
     }
 }
 
-// The first words, or all where there are no more.
-pub fn first<'a>(words: &'a [u32], count: u64) -> &'a [u32]
-    ensures { result.now ≡ take count words.now }
+// The first of them, or all where there are no more.
+pub fn first<T>(items: &[T], count: u64) -> &[T]
+    ensures { result.now ≡ take count items.now }
 {
-    if count < words.len() as u64 {
-        return &words[..count as usize];
+    if count < items.len() as u64 {
+        return &items[..count as usize];
     }
-    words
+    items
 }

@@ -2,8 +2,8 @@
 // that is there.
 ghost use Rattle.std.specs.Prelude.{◌≤◌, length};
 
-use crate::class_tables::first_bytes;
 use crate::errors::{EILSEQ, ENAMETOOLONG, ENOENT};
+use crate::reading::first;
 use std::io::Read;
 use std::rt::Files;
 use std::{io, str};
@@ -15,7 +15,7 @@ const LONGEST_PART: usize = 255;
 
 // Why such a name is not opened, of which so many bytes are text.
 pub fn unopened(rt: &impl Files, name: &[u8], text: usize) -> io::Error {
-    let from = part_begins(first_bytes(name, text));
+    let from = part_begins(first(name, text as u64));
     let part = first_part(&name[from..]);
     if LONGEST_NAME < name.len() || LONGEST_PART < part.len() {
         return io::Error::from_raw_os_error(ENAMETOOLONG);
@@ -49,9 +49,8 @@ fn first_part(name: &[u8]) -> &[u8] {
 fn is_listed(rt: &impl Files, folder: &[u8], name: &[u8]) -> io::Result<bool> {
     let mut names = rt.open_dir(folder_text(folder))?;
     for _ in 0..u64::MAX {
-        match lists(&mut names, name)? {
-            Some(listed) => return Ok(listed),
-            None => {}
+        if let Some(listed) = lists(&mut names, name)? {
+            return Ok(listed);
         }
     }
     Ok(false)

@@ -2,53 +2,54 @@
 ghost use Rattle.output.specs.Pages.{Puts};
 ghost use Rattle.files.specs.Sentences as sentences;
 
-use crate::Unwritten;
-use crate::ending::STDERR_FILENO;
-use crate::errors::{EBADF, ENOSPC, EPIPE};
-use crate::handing::hand_over;
-use crate::unreadable::number_of;
-use output::{put_byte, put_named, put_text};
+use crate::errors::{EBADF, number};
+use crate::handing::say;
+use crate::{Stopped, Unwritten};
+use output::Page;
+use std::io::{Error, ErrorKind};
 
 // To a reader who has left nothing is said.
-pub fn cannot_write(error: i32) {
-    if error == EPIPE {
-        return;
+pub fn cannot_write(error: Error) -> Stopped {
+    if error.kind() != ErrorKind::BrokenPipe {
+        let mut page: Page<128> = Page::blank();
+        put_cannot_write(&mut page, Unwritten::from(error));
+        say(&page);
     }
-    let mut page = [0u8; 128];
-    let used = put_cannot_write(&mut page, why(error));
-    hand_over(STDERR_FILENO, &page, used);
+    Stopped::Failed
 }
 
 // What the system's error means, of results that are written.
-fn why(error: i32) -> Unwritten {
-    if error == ENOSPC {
-        return Unwritten::Full;
+impl From<Error> for Unwritten {
+    fn from(error: Error) -> Unwritten {
+        if error.raw_os_error() == Some(EBADF) {
+            return Unwritten::Closed;
+        }
+        match error.kind() {
+            ErrorKind::StorageFull => Unwritten::Full,
+            _ => Unwritten::Other(number(error)),
+        }
     }
-    if error == EBADF {
-        return Unwritten::Closed;
-    }
-    Unwritten::Other(number_of(error))
 }
 
-fn put_cannot_write(page: &mut [u8], why: Unwritten) -> usize
-    ensures { Puts (sentences.cannot_write why) page.old 0 page.new result }
+fn put_cannot_write<const N: usize>(page: &mut Page<N>, why: Unwritten)
+    ensures { Puts (sentences.cannot_write why) page.old page.new }
 {
-    let used = put_text(page, 0, b"cannot write the results: ");
-    let used = put_why(page, used, why);
-    put_byte(page, used, 10)
+    page.put_text(b"cannot write the results: ");
+    why.put(page);
+    page.put_byte(b'\n');
 }
 
-fn put_why(page: &mut [u8], used: usize, why: Unwritten) -> usize
-    ensures { Puts (sentences.why_unwritten why) page.old used page.new result }
-{
-    match why {
-        Unwritten::Full => put_text(page, used, b"the disk is full"),
-        Unwritten::Closed => put_text(page, used, b"standard output is closed"),
-        Unwritten::Other(error) => put_named(
-            page,
-            used,
-            b"the system refuses them with error ",
-            error,
-        ),
+impl Unwritten {
+    #[tactic(auto, unfolding(crate::specs::Sentences::why_unwritten, output::specs::Quoted::bytes_of))]
+    fn put<const N: usize>(self, page: &mut Page<N>)
+        ensures { Puts (sentences.why_unwritten self) page.old page.new }
+    {
+        match self {
+            Unwritten::Full => page.put_text(b"the disk is full"),
+            Unwritten::Closed => page.put_text(b"standard output is closed"),
+            Unwritten::Other(error) => {
+                page.put_named(b"the system refuses them with error ", error);
+            }
+        }
     }
 }

@@ -84,10 +84,10 @@ number_small field before (Due at) small here = small
 number_small field before Return small here = small
 number_small field before (Fault number) small here = small
 
-abbrev All-small : List ℕ → Type 0
-All-small words = (i : ℕ) → get_or words i 0 < 2 ^ 32
+abbrev AllSmall : List ℕ → Type 0
+AllSmall words = (i : ℕ) → get_or words i 0 < 2 ^ 32
 
-small_more : (words : List ℕ) (word : ℕ) → All-small words → word < 2 ^ 32 → All-small (words ++ word ∷ [])
+small_more : (words : List ℕ) (word : ℕ) → AllSmall words → word < 2 ^ 32 → AllSmall (words ++ word ∷ [])
 small_more [] word all small zero = small
 small_more [] word all small (suc i) = omega arith
 small_more (w ∷ words) word all small zero = all 0

@@ -1,5 +1,5 @@
 -- What reading and writing leave: the answer, and every word or byte of what was lent to be written. A refusal changes nothing.
-use Rattle.std.specs.Prelude.{ℕ, ◌*◌, ◌^◌, ◌<◌, ◌≡◌, Bool, true, false, cond, not, ◌&&◌, ◌||◌, List, [], ◌∷◌, leb, ltb, eqb, length, get_or, take, ℤ}
+use Rattle.std.specs.Prelude.{ℕ, ◌*◌, ◌^◌, ◌<◌, ◌≡◌, Bool, true, false, cond, not, ◌&&◌, ◌||◌, Result, Ok, Err, Option, Some, None, List, [], ◌∷◌, leb, ltb, eqb, length, get_or, take, ℤ}
 use Rattle.input.specs.declared.Refusal.{Refusal}
 use Rattle.input.specs.declared.Answer.{Answer}
 use Rattle.input.specs.Limits.{least_rows, most_rows, report_words}
@@ -7,12 +7,28 @@ use Rattle.input.specs.Classes.{Table}
 use Rattle.input.specs.Refusals.{nothing, given, or_else, first, rows_refused, table_refused}
 use Rattle.input.specs.Lent.{table_of}
 use Rattle.rules.specs.Outcome.{over}
-use Rattle.forms.specs.declared.Rows.{Rows}
-use Rattle.forms.specs.Texts.{table_text, report_text}
+use Rattle.forms.specs.declared.Counted.{Counted}
+use Rattle.forms.specs.Texts.{table_text, report_text, answer_text, run_text, live_line}
 use Rattle.forms.specs.Faults.{table_in, text_refused}
 
 abbrev pub answer_of : Refusal → ℕ → Answer
 answer_of refusal count = record { number = refusal.number; place = refusal.place; second = refusal.second; count = count }
+
+-- what a routine's result comes to as an answer
+abbrev pub answered : Result ℕ Refusal → Answer
+answered (Ok count) = answer_of nothing count
+answered (Err refusal) = answer_of refusal 0
+
+-- what is printed of a run's result: of a done run the order and the report too
+abbrev pub result_text : Result ℕ Refusal → List ℕ → List ℕ → List ℕ → List ℤ → List ℕ
+result_text (Ok count) identifiers order report lags = run_text (answer_of nothing count) identifiers order report lags
+result_text (Err refusal) identifiers order report lags = answer_text (answer_of refusal 0)
+
+-- what is printed of a live box's result, which may be a packet that went on the line
+abbrev pub live_text : Result (Option ℕ) Refusal → List ℕ
+live_text (Ok None) = live_line 0 0 0 0 0
+live_text (Ok (Some packet)) = live_line 0 0 0 1 packet
+live_text (Err refusal) = live_line refusal.number refusal.place refusal.second 0 0
 
 -- ── reading a table ──
 
@@ -48,6 +64,12 @@ text_fault text size = or_else (length_refused (length text) size) (text_refused
 unfoldable pub fits : ℕ → Table → Bool
 fits rows lent = leb rows (length lent.identifiers) && leb rows (length lent.parent_identifiers) && leb rows (length lent.shares)
 
+-- what came of reading rows: the fault of the text, else how many rows it has, and whether the slices had room for them
+pub record Rows : Type 0 where
+  pub fault : Refusal
+  pub rows : ℕ
+  pub kept : Bool
+
 -- the rows of a text, whatever numbers they hold: the fault, else how many there are, and the slices, which hold them if there is room
 pub record RowsLeft : Type 0 where
   pub read : Rows
@@ -61,6 +83,11 @@ rows_found rows kept = record { fault = nothing; rows = rows; kept = kept }
 
 unfoldable pub fault_found : Refusal → Rows
 fault_found fault = record { fault = fault; rows = 0; kept = false }
+
+-- what reading rows results in
+abbrev pub rows_said : Result Counted Refusal → Rows
+rows_said (Ok found) = rows_found found.rows found.kept
+rows_said (Err fault) = fault_found fault
 
 unfoldable pub rows_kept : Table → Table → RowsLeft
 rows_kept table lent =

@@ -2,8 +2,6 @@
 // came of reading rows.
 #![tactic(auto)]
 
-use input::Refusal;
-
 // Where the next byte of a table's text stands: after so many bytes of the heading, where a field begins, from 0, within a field
 // that is this number so far, after the CR of a line, or behind a fault.
 #[derive(Clone, Copy)]
@@ -25,10 +23,9 @@ pub struct Scan {
     pub third: u32,
 }
 
-// What came of reading rows: the fault of the text, else how many rows it has, and whether the slices had room for them.
+// What came of reading rows: how many the text has, and whether the slices had room for them.
 #[derive(Clone, Copy)]
-pub struct Rows {
-    pub fault: Refusal,
+pub struct Counted {
     pub rows: u64,
     pub kept: bool,
 }

@@ -20,7 +20,7 @@ pub type Keys = [u64; MEMBERS];
 
 pub type Ties = [u32; MEMBERS];
 
-// For each heap its root, 0 where it is empty.
+// For each heap its root, 0 where it is empty: a byte each, since the memory is fixed.
 pub type Roots = [u8; HEAPS];
 
 // For each number the root of its left or right side.
@@ -42,6 +42,7 @@ fn comes_before(keys: &Keys, ties: &Ties, x: u8, y: u8) -> bool
 }
 
 // The two in order.
+#[tactic(auto, unfolding(crate::specs::Links::lesser, crate::specs::Links::other))]
 fn in_order(keys: &Keys, ties: &Ties, a: u8, b: u8) -> (u8, u8)
     ensures first { result.0 ≡ lesser (before keys.now ties.now) a b }
     ensures second { result.1 ≡ other (before keys.now ties.now) a b }
@@ -55,6 +56,7 @@ fn in_order(keys: &Keys, ties: &Ties, a: u8, b: u8) -> (u8, u8)
 
 impl Heaps {
     // Every heap is empty.
+    #[tactic(auto, unfolding(crate::specs::Kept::no_heaps))]
     pub fn empty() -> Heaps
         ensures { result ≡ no_heaps }
     {
@@ -89,6 +91,7 @@ impl Heaps {
     }
 
     // What a and b have, melded: its root.
+    #[tactic(auto, unfolding(crate::specs::Links::root_of, crate::specs::Links::melded))]
     fn meld(&mut self, keys: &Keys, ties: &Ties, a: u8, b: u8) -> u8
         ensures root { result ≡ root_of (before keys.now ties.now) a b (links_in self.old) }
         ensures links_after { links_in self.new ≡ melded (before keys.now ties.now) a b (links_in self.old) }
@@ -116,6 +119,7 @@ impl Heaps {
     }
 
     // Number x joins heap h: what was in h, and x. It is to be in no heap, and then every other heap keeps what it has (Laws: joins).
+    #[tactic(auto, unfolding(crate::specs::Heaps::joined, crate::specs::Links::bare))]
     pub fn insert(&mut self, keys: &Keys, ties: &Ties, h: usize, x: u8)
         requires { h < most_heaps }
         ensures { forest_in self.new ≡ joined (before keys.now ties.now) h x (forest_in self.old) }
@@ -127,6 +131,7 @@ impl Heaps {
 
     // The least number of heap h leaves it: which it is, 0 where the heap is empty. It is the root (Laws: first-of), and what else is in
     // h, and every other heap, stays (Laws: parts).
+    #[tactic(auto, unfolding(crate::specs::Heaps::parted))]
     pub fn take(&mut self, keys: &Keys, ties: &Ties, h: usize) -> u8
         requires { h < most_heaps }
         ensures root { result ≡ get_or self.old.roots h 0 }

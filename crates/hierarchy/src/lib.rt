@@ -66,7 +66,8 @@ pub fn finish_first(tree: &TreeArrays, rows: &mut RowArrays, k: usize)
     rows.set_head(r, 0, 0, 0);
 }
 
-// The next packet of class k, if it has one, is its head. `next` is that packet's place + 1, or 0 where there is none.
+// The next packet of class k, if it has one, is its head. `next` is that packet's place + 1, or 0 where there is none: as a head is kept.
+#[tactic(auto, using(crate::proofs::Later::renews_none, crate::proofs::Later::renews_some))]
 pub fn renew(tree: &TreeArrays, rows: &mut RowArrays, k: usize, next: u32, length: u32)
     requires k_lt_most_rows { k < most_rows }
     requires inside { Inside tree.now.parents }
@@ -82,6 +83,7 @@ pub fn renew(tree: &TreeArrays, rows: &mut RowArrays, k: usize, next: u32, lengt
 
 // A packet arrives for class k: nothing changes if k has a head; else it is k's head. The row from which the way up is gone then: k, or the root,
 // which has nobody above it.
+#[tactic(auto, unfolding(crate::specs::Climbing::front_rows, crate::specs::Climbing::front_row, rules::specs::Box::has_head))]
 pub fn arrive(tree: &TreeArrays, rows: &mut RowArrays, place: u32, k: usize, length: u32) -> usize
     requires k_is_row { k < most_rows }
     requires place_small { place + 1 < 2 ^ 32 }

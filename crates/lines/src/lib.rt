@@ -8,259 +8,243 @@ ghost use Rattle.output.specs.Pages.{Puts};
 ghost use Rattle.output.specs.Numbers.{decimal, signed};
 ghost use Rattle.forms.specs.Bytes.{comma, line_end, live_heading};
 ghost use Rattle.forms.specs.Texts as texts;
+ghost use Rattle.forms.specs.Outcomes.{answered, result_text, live_text};
 
-use input::{Answer, REPORT_WORDS};
-use output::{put_byte, put_number, put_signed, put_text, put_then, put_word};
+use input::{Answer, REPORT_WORDS, Refusal};
+use output::Page;
 
 // CR LF.
-pub fn put_end(page: &mut [u8], used: usize) -> usize
-    ensures { Puts line_end page.old used page.new result }
+pub fn put_end<const N: usize>(page: &mut Page<N>)
+    ensures { Puts line_end page.old page.new }
 {
-    let used = put_byte(page, used, 13);
-    put_byte(page, used, 10)
+    page.put_byte(13);
+    page.put_byte(10);
 }
 
 // A row of a table.
-fn put_row(page: &mut [u8], used: usize, identifier: u32, parent: u32, share: u32) -> usize
-    ensures { Puts (texts.row_line identifier parent share) page.old used page.new result }
+fn put_row<const N: usize>(page: &mut Page<N>, identifier: u32, parent: u32, share: u32)
+    ensures { Puts (texts.row_line identifier parent share) page.old page.new }
 {
-    let used = put_then(page, used, identifier, 44);
-    let used = put_then(page, used, parent, 44);
-    let used = put_word(page, used, share);
-    put_end(page, used)
+    page.put_then(identifier, 44);
+    page.put_then(parent, 44);
+    page.put_word(share);
+    put_end(page);
 }
 
 // The rows of a table whose slices have one length.
-fn put_rows(
-    page: &mut [u8],
-    used: usize,
+fn put_rows<const N: usize>(
+    page: &mut Page<N>,
     identifiers: &[u32],
     parents: &[u32],
     shares: &[u32],
-) -> usize
+)
     requires { (length parents.now ≡ length identifiers.now) × (length shares.now ≡ length identifiers.now) }
     ensures { Puts (texts.row_lines (table_of identifiers.now parents.now shares.now) (length identifiers.now))
-        page.old used page.new result }
+        page.old page.new }
 {
-    let mut used = used;
-    let mut r = 0;
-    while r < identifiers.len() {
-        used = put_row(page, used, identifiers[r], parents[r], shares[r]);
-        r += 1;
+    for (r, &identifier) in identifiers.iter().enumerate() {
+        put_row(page, identifier, parents[r], shares[r]);
     }
-    used
 }
 
 // A table whose slices have one length.
-pub fn put_table(
-    page: &mut [u8],
-    used: usize,
+pub fn put_table<const N: usize>(
+    page: &mut Page<N>,
     identifiers: &[u32],
     parents: &[u32],
     shares: &[u32],
-) -> usize
+)
     requires { (length parents.now ≡ length identifiers.now) × (length shares.now ≡ length identifiers.now) }
-    ensures { Puts (texts.table_text (table_of identifiers.now parents.now shares.now))
-        page.old used page.new result }
+    ensures { Puts (texts.table_text (table_of identifiers.now parents.now shares.now)) page.old page.new }
 {
-    let used = put_text(page, used, b"identifier,parent,share");
-    let used = put_end(page, used);
-    put_rows(page, used, identifiers, parents, shares)
+    page.put_text(b"identifier,parent,share");
+    put_end(page);
+    put_rows(page, identifiers, parents, shares);
 }
 
 // A word of a row's report, 0 past its end.
 fn report_word(report: &[u64], row: usize, j: usize) -> u64
     ensures { result ≡ get_or report.now (report_words * row + j) 0 }
 {
-    if report.len() / REPORT_WORDS < row {
-        return 0;
-    }
-    let start = REPORT_WORDS * row;
-    if j < report.len() - start {
-        return report[start + j];
-    }
-    0
+    let place = REPORT_WORDS.saturating_mul(row).saturating_add(j);
+    report.get(place).copied().unwrap_or(0)
 }
 
 // A row's lag, 0 past the end.
 fn lag(lags: &[i64], row: usize) -> i64
     ensures { result ≡ get_or lags.now row (pos 0) }
 {
-    if row < lags.len() {
-        return lags[row];
-    }
-    0
+    lags.get(row).copied().unwrap_or(0)
 }
 
 // A row's words of the report, a comma after each.
-fn put_fields(page: &mut [u8], used: usize, report: &[u64], row: usize) -> usize
-    ensures { Puts (texts.report_fields report.now row report_words) page.old used page.new result }
+fn put_fields<const N: usize>(page: &mut Page<N>, report: &[u64], row: usize)
+    ensures { Puts (texts.report_fields report.now row report_words) page.old page.new }
 {
-    let mut used = used;
-    let mut j = 0;
-    while j < REPORT_WORDS {
-        used = put_field(page, used, report_word(report, row, j));
-        j += 1;
+    for j in 0..REPORT_WORDS {
+        put_field(page, report_word(report, row, j));
     }
-    used
 }
 
 // A number and a comma.
-pub fn put_field(page: &mut [u8], used: usize, n: u64) -> usize
-    ensures { Puts (decimal n ++ comma ∷ []) page.old used page.new result }
+pub fn put_field<const N: usize>(page: &mut Page<N>, n: u64)
+    ensures { Puts (decimal n ++ comma ∷ []) page.old page.new }
 {
-    let used = put_number(page, used, n);
-    put_byte(page, used, 44)
+    page.put_number(n);
+    page.put_byte(44);
 }
 
 // The line of a row whose identifier and lag are these.
-fn put_report_line(
-    page: &mut [u8],
-    used: usize,
+fn put_report_line<const N: usize>(
+    page: &mut Page<N>,
     identifier: u32,
     report: &[u64],
     lag: i64,
     row: usize,
-) -> usize
+)
     ensures { Puts (decimal identifier ++ comma ∷ texts.report_fields report.now row report_words ++ signed lag ++ line_end)
-        page.old used page.new result }
+        page.old page.new }
 {
-    let used = put_then(page, used, identifier, 44);
-    let used = put_fields(page, used, report, row);
-    let used = put_signed(page, used, lag);
-    put_end(page, used)
+    page.put_then(identifier, 44);
+    put_fields(page, report, row);
+    page.put_signed(lag);
+    put_end(page);
 }
 
-fn put_report_lines(
-    page: &mut [u8],
-    used: usize,
+fn put_report_lines<const N: usize>(
+    page: &mut Page<N>,
     identifiers: &[u32],
     report: &[u64],
     lags: &[i64],
-) -> usize
-    ensures { Puts (texts.report_lines identifiers.now report.now lags.now (length identifiers.now))
-        page.old used page.new result }
+)
+    ensures { Puts (texts.report_lines identifiers.now report.now lags.now (length identifiers.now)) page.old page.new }
 {
-    let mut used = used;
-    let mut r = 0;
-    while r < identifiers.len() {
-        used = put_report_line(page, used, identifiers[r], report, lag(lags, r), r);
-        r += 1;
+    for (r, &identifier) in identifiers.iter().enumerate() {
+        put_report_line(page, identifier, report, lag(lags, r), r);
     }
-    used
 }
 
 // A report with its lags.
-pub fn put_report(
-    page: &mut [u8],
-    used: usize,
+pub fn put_report<const N: usize>(
+    page: &mut Page<N>,
     identifiers: &[u32],
     report: &[u64],
     lags: &[i64],
-) -> usize
-    ensures { Puts (texts.report_text identifiers.now report.now lags.now)
-        page.old used page.new result }
+)
+    ensures { Puts (texts.report_text identifiers.now report.now lags.now) page.old page.new }
 {
-    let used = put_text(
-        page,
-        used,
-        b"identifier,bytes,start,finish,virtual,held,lag",
-    );
-    let used = put_end(page, used);
-    put_report_lines(page, used, identifiers, report, lags)
+    page.put_text(b"identifier,bytes,start,finish,virtual,held,lag");
+    put_end(page);
+    put_report_lines(page, identifiers, report, lags);
+}
+
+// The four numbers of an answer: 0 for what is done, and no count for what is refused.
+#[tactic(auto, unfolding(input::specs::Refusals::nothing))]
+fn numbers_of(answer: Result<u32, Refusal>) -> Answer
+    ensures { result ≡ answered answer }
+{
+    match answer {
+        Ok(count) => Answer {
+            number: 0,
+            place: 0,
+            second: 0,
+            count,
+        },
+        Err(refusal) => Answer {
+            number: refusal.number,
+            place: refusal.place,
+            second: refusal.second,
+            count: 0,
+        },
+    }
 }
 
 // An answer's four numbers under their names.
-pub fn put_answer(page: &mut [u8], used: usize, answer: Answer) -> usize
-    ensures { Puts (texts.answer_text answer) page.old used page.new result }
+pub fn put_answer<const N: usize>(page: &mut Page<N>, answer: Result<u32, Refusal>)
+    ensures { Puts (texts.answer_text (answered answer)) page.old page.new }
 {
-    let used = put_text(page, used, b"answer,place,second,count");
-    let used = put_end(page, used);
-    let used = put_then(page, used, answer.number, 44);
-    let used = put_then(page, used, answer.place, 44);
-    let used = put_then(page, used, answer.second, 44);
-    let last = put_word(page, used, answer.count);
-    put_end(page, last)
+    let answer = numbers_of(answer);
+    page.put_text(b"answer,place,second,count");
+    put_end(page);
+    page.put_then(answer.number, 44);
+    page.put_then(answer.place, 44);
+    page.put_then(answer.second, 44);
+    page.put_word(answer.count);
+    put_end(page);
 }
 
 // A line for each word.
-fn put_words(page: &mut [u8], used: usize, words: &[u32]) -> usize
-    ensures { Puts (texts.word_lines words.now) page.old used page.new result }
+fn put_words<const N: usize>(page: &mut Page<N>, words: &[u32])
+    ensures { Puts (texts.word_lines words.now) page.old page.new }
 {
-    let mut used = used;
-    let mut i = 0;
-    while i < words.len() {
-        used = put_word_line(page, used, words[i]);
-        i += 1;
+    for &word in words {
+        page.put_word(word);
+        put_end(page);
     }
-    used
-}
-
-fn put_word_line(page: &mut [u8], used: usize, word: u32) -> usize
-    ensures { Puts (decimal word ++ line_end) page.old used page.new result }
-{
-    let used = put_word(page, used, word);
-    put_end(page, used)
 }
 
 // An order's first words, as many as there are at most.
-fn put_order(page: &mut [u8], used: usize, order: &[u32], count: u32) -> usize
-    ensures { Puts (texts.order_text (take count order.now)) page.old used page.new result }
+fn put_order<const N: usize>(page: &mut Page<N>, order: &[u32], count: u32)
+    ensures { Puts (texts.order_text (take count order.now)) page.old page.new }
 {
-    let used = put_text(page, used, b"order");
-    let used = put_end(page, used);
-    let n = count as usize;
-    if n < order.len() {
-        return put_words(page, used, &order[..n]);
-    }
-    put_words(page, used, order)
+    page.put_text(b"order");
+    put_end(page);
+    put_words(page, &order[..(count as usize).min(order.len())]);
 }
 
 // All that a run comes to: the answer and, of a done one, the order and the report.
-pub fn put_run(
-    page: &mut [u8],
-    used: usize,
-    answer: Answer,
+pub fn put_run<const N: usize>(
+    page: &mut Page<N>,
+    answer: Result<u32, Refusal>,
     identifiers: &[u32],
     order: &[u32],
     report: &[u64],
     lags: &[i64],
-) -> usize
-    ensures { Puts (texts.run_text answer identifiers.now order.now report.now lags.now)
-        page.old used page.new result }
+)
+    ensures { Puts (result_text answer identifiers.now order.now report.now lags.now) page.old page.new }
 {
-    let used = put_answer(page, used, answer);
-    if answer.number != 0 {
-        return used;
+    put_answer(page, answer);
+    if let Ok(count) = answer {
+        put_order(page, order, count);
+        put_report(page, identifiers, report, lags);
     }
-    let used = put_order(page, used, order, answer.count);
-    put_report(page, used, identifiers, report, lags)
 }
 
 // The names of a live box's answers.
-pub fn put_live_heading(page: &mut [u8], used: usize) -> usize
-    ensures { Puts (live_heading ++ line_end) page.old used page.new result }
+pub fn put_live_heading<const N: usize>(page: &mut Page<N>)
+    ensures { Puts (live_heading ++ line_end) page.old page.new }
 {
-    let used = put_text(page, used, b"answer,place,second,count,packet");
-    put_end(page, used)
+    page.put_text(b"answer,place,second,count,packet");
+    put_end(page);
 }
 
-// One of its answers.
-pub fn put_live_line(
-    page: &mut [u8],
-    used: usize,
-    number: u32,
-    place: u32,
-    second: u32,
-    count: u32,
-    packet: u32,
-) -> usize
-    ensures { Puts (texts.live_line number place second count packet) page.old used page.new result }
+// One of its answers: what went on the line, if anything did, or the refusal.
+#[tactic(auto, unfolding(input::specs::Refusals::nothing))]
+pub fn put_live_line<const N: usize>(page: &mut Page<N>, answer: Result<Option<u32>, Refusal>)
+    ensures { Puts (live_text answer) page.old page.new }
 {
-    let used = put_then(page, used, number, 44);
-    let used = put_then(page, used, place, 44);
-    let used = put_then(page, used, second, 44);
-    let used = put_then(page, used, count, 44);
-    let used = put_word(page, used, packet);
-    put_end(page, used)
+    match answer {
+        Ok(None) => put_live_numbers(page, Ok(0), 0),
+        Ok(Some(packet)) => put_live_numbers(page, Ok(1), packet),
+        Err(refusal) => put_live_numbers(page, Err(refusal), 0),
+    }
+}
+
+// The four numbers of an answer and the packet's name.
+fn put_live_numbers<const N: usize>(page: &mut Page<N>, answer: Result<u32, Refusal>, packet: u32)
+    ensures { Puts (texts.live_line (answered answer).number (answered answer).place (answered answer).second (answered answer).count packet)
+        page.old page.new }
+{
+    let Answer {
+        number,
+        place,
+        second,
+        count,
+    } = numbers_of(answer);
+    page.put_then(number, 44);
+    page.put_then(place, 44);
+    page.put_then(second, 44);
+    page.put_then(count, 44);
+    page.put_word(packet);
+    put_end(page);
 }

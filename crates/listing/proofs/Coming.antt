@@ -8,7 +8,6 @@ use lib.Dec.{leb, eqb}
 use lib.ListN.{length, get_or}
 use Rattle.rules.specs.Refused.{idle}
 use Rattle.pcap.specs.Lists.{Progress, finishes, class_next, length_next, moment_next, packet_length}
-use Rattle.listing.specs.declared.next.Next.{Next}
 use Rattle.listing.specs.Next.{NextIs}
 
 module _ (stamps classes lengths : List ℕ) (idles : Bool) (arrived due k stamp : ℕ) (test : Bool) (k_is : k ≡ arrived) (stamp_is : stamp ≡ get_or stamps k 0)

@@ -1,36 +1,31 @@
 -- The list grows by one event: what the arrays are by the shorter list they are by the longer one, and an event that is not refused goes on.
 -- Assumes nothing.
-use Prim.Native.Nat.{ℕ, zero, suc, ◌+◌, ◌*◌, ◌^◌, ◌≤◌, ◌<◌}
+use Prim.Native.Nat.{ℕ, suc, ◌≤◌, ◌<◌}
 use mathlib.Core.Path.{◌≡◌, refl, sym, ap, ◌∙◌}
-use mathlib.Core.Bool.{Bool, true, false, cond, not, ◌||◌}
-use mathlib.Core.List.{List, [], ◌∷◌, ◌++◌}
-use native.Mathlib.Decide.{dec_lt}
+use mathlib.Core.Bool.{Bool, true, false, not}
+use mathlib.Core.List.{List, [], ◌∷◌}
 use native.Mathlib.Omega.{arith}
 use lib.Dec.{eqb}
-use lib.ListN.{length, get_or, set, take, drop}
-use lib.Seq.{take-suc-set, get_or-drop}
-use Rattle.input.specs.Limits.{most_events, most_bytes}
+use lib.ListN.{length, get_or, set, take}
+use lib.Seq.{take-suc-set}
+use Rattle.input.specs.Limits.{most_events}
 use Rattle.input.specs.Classes.{Tree, row_of}
-use Rattle.input.specs.Events.{Events, count, class_word, length_word, decode, event}
-use Rattle.input.specs.EventRows.{row_for}
+use Rattle.input.specs.Events.{Events}
 use Rattle.input.specs.Lent.{events_of}
-use Rattle.rules.specs.Box.{Packet, Rows, Box, head, head_length, has_head}
+use Rattle.rules.specs.Box.{Packet, Rows, head, has_head}
 use Rattle.rules.specs.Steps.{after}
 use Rattle.rules.specs.Refused.{idle, event_refused}
-use Rattle.laws.specs.Sound.{Sound}
-use Rattle.laws.specs.Kept.{InLine, Kept}
+use Rattle.laws.specs.Kept.{InLine}
 use Rattle.laws.specs.History.{Accepted}
 use Rattle.laws.specs.Named.{class_for}
 use Rattle.laws.proofs.Run.Sizes.{small_kept}
 use Rattle.laws.proofs.Run.Waited.{box_named}
-use Rattle.heaps.specs.Heaps.{Forest}
-use Rattle.choosing.specs.declared.Way.{Way}
-use Rattle.choosing.specs.declared.Way.TheVariants.{Looking, Heaps}
-use Rattle.choosing.specs.Filed.{Filed}
+use Rattle.arrays.specs.declared.CountArrays.{CountArrays}
+use Rattle.choosing.specs.Filed.{Filing, Keeps}
 use Rattle.events.specs.Links.{Chain, Linked}
 use Rattle.events.specs.State.{Fit, Now}
-use Rattle.pcap.specs.Lists.{Arrivals, Progress, class_next, length_next, progress, listed}
-use Rattle.pcap.proofs.Listing.{at, coming, listed_count, listed_even, class_listed, length_listed, event_listed, box_listed, refused_listed}
+use Rattle.pcap.specs.Lists.{Arrivals, class_next, length_next, listed}
+use Rattle.pcap.proofs.Listing.{at, listed_count, listed_even, class_listed, length_listed, box_listed, refused_listed}
 
 module _ (tree : Tree) (arrivals : Arrivals) (rate : ℕ) where
   abbrev list : ℕ → Events
@@ -62,20 +57,10 @@ module _ (tree : Tree) (arrivals : Arrivals) (rate : ℕ) where
               rw (refused_listed tree arrivals rate (suc i) j (omega arith), ← refused_listed tree arrivals rate i j before) (ok.each j before);
         }
 
-    filed_longer : (way : Way) (a : Rows) (f : Forest) → (after tree (list i) i).rows ≡ a → Filed way tree (class_for tree (list i)) a 0 f
-        → Filed way tree (class_for tree (list (suc i))) a 0 f
-    unfolding Filed
-    filed_longer Looking a f is filed = filed
-    filed_longer Heaps a f is filed =
-        record {
-          full = filed.full;
-          named = rw (← is, ← same_box) (box_named tree (list (suc i)) i ok_longer);
-          owned = filed.owned;
-          home = filed.home;
-          heaps = filed.heaps;
-          filed = filed.filed;
-          at_home = filed.at_home;
-        }
+    filed_longer : (Filed : Filing) → Keeps Filed → (a : Rows) → (after tree (list i) i).rows ≡ a → Filed tree (class_for tree (list i)) a 0
+        → Filed tree (class_for tree (list (suc i))) a 0
+    filed_longer Filed keeps a is filed =
+        keeps.renamed tree (class_for tree (list i)) (class_for tree (list (suc i))) a (rw (← is, ← same_box) (box_named tree (list (suc i)) i ok_longer)) filed
 
     linked_longer : (lasts links : List ℕ) → ((j : ℕ) → i ≤ j → get_or links j 0 ≡ 0)
         → Linked tree (list i) i (after tree (list i) i) lasts links → Linked tree (list (suc i)) i (after tree (list (suc i)) i) lasts links
@@ -90,12 +75,12 @@ module _ (tree : Tree) (arrivals : Arrivals) (rate : ℕ) where
         })
 
     pub now_longer :
-        {way : Way} {sent : ℕ} {a : Rows} {f : Forest} {bytes held since parent_since lasts links : List ℕ}
-        → ((j : ℕ) → i ≤ j → get_or links j 0 ≡ 0) → Now way tree (list i) i sent a f bytes held since parent_since lasts links
-        → Now way tree (list (suc i)) i sent a f bytes held since parent_since lasts links
-    now_longer {way} {sent} {a} {f} unlinked now =
+        {Filed : Filing} {sent : ℕ} {a : Rows} {c : CountArrays} {lasts links : List ℕ} → Keeps Filed
+        → ((j : ℕ) → i ≤ j → get_or links j 0 ≡ 0) → Now Filed tree (list i) i sent a c lasts links
+        → Now Filed tree (list (suc i)) i sent a c lasts links
+    now_longer {Filed} {sent} {a} {c} keeps unlinked now =
         record {
-          filed = filed_longer way a f now.rows_are now.filed;
+          filed = filed_longer Filed keeps a now.rows_are now.filed;
           rows_are = rw same_box now.rows_are;
           counts_are = rw same_box now.counts_are;
           sent_are = rw same_box now.sent_are;

@@ -3,35 +3,35 @@
 use Prim.Native.Nat.{ℕ, zero, suc, ◌+◌, ◌-◌, ◌*◌, ◌^◌, ◌≤◌, ◌<◌}
 use mathlib.Core.Path.{◌≡◌, refl, sym, ap, ◌∙◌, subst}
 use mathlib.Core.Bool.{Bool, true, false, cond, ◌||◌}
-use mathlib.Core.List.{List, [], ◌∷◌}
+use mathlib.Core.List.{List}
 use native.Mathlib.Decide.{dec_lt}
-use native.Mathlib.Nat.{mul-le-mul_right}
 use native.Mathlib.Numerals.{add-one}
 use native.Mathlib.Omega.{arith}
 use lib.Dec.{eqb}
-use lib.ListN.{length, get_or, set, take, drop, get_or-eq_default}
+use lib.ListN.{get_or, set, take, drop}
 use lib.Seq.{get_or-drop}
-use Rattle.input.specs.declared.Event.{Event}
 use Rattle.input.specs.Limits.{most_events, most_bytes}
 use Rattle.input.specs.Classes.{Tree}
-use Rattle.input.specs.Events.{Events, count, decode, event}
+use Rattle.input.specs.Events.{Events, decode}
 use Rattle.input.specs.EventRows.{row_for}
 use Rattle.input.specs.Lent.{events_of}
 use Rattle.rules.specs.Box.{Rows, head, head_length}
-use Rattle.rules.specs.Steps.{after}
 use Rattle.rules.specs.Refused.{idle, event_refused}
 use Rattle.laws.specs.History.{Accepted}
 use Rattle.laws.proofs.Run.Sizes.{heads_below}
-use Rattle.heaps.specs.Heaps.{Forest}
-use Rattle.choosing.specs.declared.Way.{Way}
-use Rattle.checks.specs.declared.EventCheck.{EventCheck}
-use Rattle.checks.specs.Counted.{Known, Meets}
-use Rattle.events.specs.State.{Fit, Now, Coming, Gone}
-use Rattle.pcap.specs.Lists.{Stamped, Arrivals, Progress, arrivals_with, sending, finishes, class_next, length_next, moment_next, due_next, proceeds, progress, listed}
-use Rattle.pcap.proofs.Listing.{at, coming, listed_count, event_listed, box_listed, refused_listed}
+use Rattle.std.specs.Prelude.{Ok}
+use Rattle.input.specs.declared.Refusal.{Refusal}
+use Rattle.input.specs.Refusals.{meeting_refused}
+use Rattle.arrays.specs.declared.CountArrays.{CountArrays}
+use Rattle.choosing.specs.Filed.{Filing, Keeps}
+use Rattle.tables.specs.Judged.{Refuses, Judged}
+use Rattle.events.specs.State.{Fit, Coming, Gone}
+use Rattle.pcap.specs.Lists.{Stamped, Arrivals, Progress, arrivals_with, sending, finishes, moment_next, due_next, proceeds, progress, listed}
+use Rattle.pcap.proofs.Listing.{coming, listed_count, event_listed, box_listed, refused_listed}
 use Rattle.listing.specs.declared.next.Next.{Next}
 use Rattle.listing.specs.Next.{NextIs}
-use Rattle.listing.specs.Reached.{Ground, Roomy, Reached, Turned}
+use Rattle.listing.specs.declared.Turn.{Turn}
+use Rattle.listing.specs.Reached.{Ground, Roomy, Reached}
 use Rattle.input.proofs.Charges.{rounded_most}
 use Rattle.listing.proofs.Growing.{now_longer, fit_longer, idle_now, listed_next}
 
@@ -63,30 +63,24 @@ beyond links links' n same j from = go (j - n) (omega arith)
     go : (d : ℕ) → j ≡ n + d → get_or links' j 0 ≡ get_or links j 0
     go d is = rw is (sym (get_or-drop n links' d 0) ∙ ap (λ (rest : List ℕ). get_or rest d 0) same ∙ get_or-drop n links d 0)
 
--- the same event, and the same list, by other names
-pub met_as : {tree : Tree} {i word : ℕ} {e other : Event} {idles : Bool} {check : EventCheck} → e ≡ other → Meets tree i word e idles check → Meets tree i word other idles check
-met_as {tree} {i} {word} {e} {other} {idles} {check} same met = subst (λ (x : Event). Meets tree i word x idles check) same met
-
+-- the same list by another name
 pub comes_as :
-    {way : Way} {tree : Tree} {list other : Events} {i row sent : ℕ} {a : Rows} {f : Forest} {bytes held since parent_since lasts links order : List ℕ} → list ≡ other
-    → Coming way tree list i row sent a f bytes held since parent_since lasts links order
-    → Coming way tree other i row sent a f bytes held since parent_since lasts links order
-comes_as {way} {tree} {list} {other} {i} {row} {sent} {a} {f} {bytes} {held} {since} {parent_since} {lasts} {links} {order} same comes =
-    subst (λ (x : Events). Coming way tree x i row sent a f bytes held since parent_since lasts links order) same comes
+    {Filed : Filing} {tree : Tree} {list other : Events} {i row sent : ℕ} {a : Rows} {c : CountArrays} {lasts links order : List ℕ} → list ≡ other
+    → Coming Filed tree list i row sent a c lasts links order → Coming Filed tree other i row sent a c lasts links order
+comes_as {Filed} {tree} {list} {other} {i} {row} {sent} {a} {c} {lasts} {links} {order} same comes =
+    subst (λ (x : Events). Coming Filed tree x i row sent a c lasts links order) same comes
 
 pub gone_as :
-    {way : Way} {tree : Tree} {list other : Events} {i sent : ℕ} {a : Rows} {f : Forest} {bytes held since parent_since lasts links links' order order' : List ℕ} → list ≡ other
-    → Gone way tree list i sent a f bytes held since parent_since lasts links links' order order'
-    → Gone way tree other i sent a f bytes held since parent_since lasts links links' order order'
-gone_as {way} {tree} {list} {other} {i} {sent} {a} {f} {bytes} {held} {since} {parent_since} {lasts} {links} {links'} {order} {order'} same gone =
-    subst (λ (x : Events). Gone way tree x i sent a f bytes held since parent_since lasts links links' order order') same gone
+    {Filed : Filing} {tree : Tree} {list other : Events} {i sent : ℕ} {a : Rows} {c : CountArrays} {lasts links links' order order' : List ℕ} → list ≡ other
+    → Gone Filed tree list i sent a c lasts links links' order order' → Gone Filed tree other i sent a c lasts links links' order order'
+gone_as {Filed} {tree} {list} {other} {i} {sent} {a} {c} {lasts} {links} {links'} {order} {order'} same gone =
+    subst (λ (x : Events). Gone Filed tree x i sent a c lasts links links' order order') same gone
 
 module _
-    {way : Way} {tree : Tree} {identifiers : List ℕ} {senders : List Bool} (ground : Ground tree identifiers senders) {stamps pclasses plengths : List ℕ}
-    (stamped : Stamped stamps) {rate i arrived due sent : ℕ} {a : Rows} {f : Forest} {bytes held since parent_since lasts links order classes lengths : List ℕ}
+    {Filed : Filing} (keeps : Keeps Filed) {tree : Tree} {identifiers : List ℕ} {senders : List Bool} (ground : Ground tree identifiers senders) {stamps pclasses plengths : List ℕ}
+    (stamped : Stamped stamps) {rate i : ℕ} {turn : Turn} {a : Rows} {c : CountArrays} {lasts links order classes lengths : List ℕ}
     (room : Roomy i links order classes lengths)
-    (reached :
-    Reached way tree (arrivals_with stamps pclasses plengths) rate i arrived due sent a f bytes held since parent_since lasts links classes lengths)
+    (reached : Reached Filed tree (arrivals_with stamps pclasses plengths) rate i turn a c lasts links classes lengths)
   where
     abbrev arrivals : Arrivals
     arrivals = arrivals_with stamps pclasses plengths
@@ -103,7 +97,7 @@ module _
     pub idle_is : idle now.box ≡ idles
     idle_is = idle_now tree arrivals rate i a reached.now.rows_are
 
-    pub few_arrived : arrived ≤ most_events
+    pub few_arrived : turn.arrived ≤ most_events
     few_arrived = omega (arith, few_come tree arrivals rate i, reached.arrived_are, room.events_room)
 
     ok : Accepted tree (list i) i
@@ -127,79 +121,83 @@ module _
           by true = omega (arith, reached.due_low, reached.due_is)
           by false = omega (arith, stamped now.arrived)
 
-      module _ {check : EventCheck} (met : Meets tree i next.length (decode next.class next.length) idles check) where
-        pub refusal_is : check.refusal ≡ event_refused tree (list (suc i)) i
-        refusal_is =
-            met.refusal ∙ rw (refused_listed tree arrivals rate (suc i) i (omega arith), next_is.class, next_is.length, idle_is)
+      abbrev met : Refusal
+      met = meeting_refused tree i next.length (decode next.class next.length) idles
 
-        module _ (none : check.refusal.number ≡ 0) where
-          fine_next : (j : ℕ) → j < suc i → (event_refused tree (list (suc i)) j).number ≡ 0
-          fine_next j before = go (dec_lt j i)
+      met_is : met ≡ event_refused tree (list (suc i)) i
+      met_is = rw (refused_listed tree arrivals rate (suc i) i (omega arith), next_is.class, next_is.length, idle_is)
+
+      pub refuses_next : (r : Refusal) → Refuses met r → Refuses (event_refused tree (list (suc i)) i) r
+      refuses_next r refuses = rw (← met_is) refuses
+
+      module _ {row : ℕ} (passed : Judged met (row_for tree (decode next.class next.length)) (Ok row)) where
+        fine_next : (j : ℕ) → j < suc i → (event_refused tree (list (suc i)) j).number ≡ 0
+        fine_next j before = go (dec_lt j i)
+          where
+            go : Dec (j < i) → (event_refused tree (list (suc i)) j).number ≡ 0
+            go (yes earlier) =
+                rw (refused_listed tree arrivals rate (suc i) j before, ← refused_listed tree arrivals rate i j earlier) (reached.fine j earlier)
+            go (no last) = let same : j ≡ i = omega arith in rw (same, ← met_is) passed.0
+
+        fit_next : Fit tree (list (suc i))
+        fit_next = fit_longer tree arrivals rate (suc i) (omega (arith, room.events_room)) ground.fit fine_next
+
+        pub comes : Coming Filed tree (list (suc i)) i row turn.sent a c lasts links order
+        comes =
+            record {
+              fit = fit_next;
+              inside = omega (arith, listed_count tree arrivals rate (suc i));
+              row_is = passed.1 ∙ ap (row_for tree) (event_is ∙ sym (event_listed tree arrivals rate (suc i) i (omega arith)));
+              links_room = omega (arith, listed_count tree arrivals rate (suc i), room.links_room);
+              order_room = omega (arith, listed_count tree arrivals rate (suc i), room.order_room);
+              now = now_longer tree arrivals rate i ok keeps reached.unlinked reached.now;
+            }
+
+        module _
+            {Filed' : Filing} {b : Rows} {d : CountArrays} {sent' : ℕ} {lasts' links' order' : List ℕ}
+            (gone : Gone Filed' tree (list (suc i)) i sent' b d lasts' links links' order order') where
+          -- the packet on the line then is no longer than a packet may be
+          pub line_length : head_length b 0 ≤ most_bytes
+          line_length =
+              rw (← gone.now.rows_are)
+              (heads_below tree (list (suc i)) (suc i) 0 (record { sound = ok.sound; each = fine_next }) ok.sound.some_rows)
+
+          due_is : (due' : ℕ) → due' ≡ cond (next.finish || idles) (next.moment + sending rate (head_length b 0)) turn.due
+              → due' ≡ (progress tree arrivals rate (suc i)).due
+          unfolding due_next
+          due_is due' is =
+              is
+              ∙ rw (
+                due_later tree arrivals rate i,
+                ← box_listed tree arrivals rate (suc i) (suc i) (omega arith),
+                gone.now.rows_are,
+                next_is.finish,
+                next_is.moment,
+                idle_is,
+                reached.due_is,
+              )
+
+          due_low : (due' : ℕ) → due' ≡ cond (next.finish || idles) (next.moment + sending rate (head_length b 0)) turn.due → due' ≤ 2 ^ 53 + suc i * 2 ^ 34
+          unfolding sending
+          due_low due' is = rw is (go (next.finish || idles))
             where
-              go : Dec (j < i) → (event_refused tree (list (suc i)) j).number ≡ 0
-              go (yes earlier) =
-                  rw (refused_listed tree arrivals rate (suc i) j before, ← refused_listed tree arrivals rate i j earlier) (reached.fine j earlier)
-              go (no last) = let same : j ≡ i = omega arith in rw (same, ← refusal_is) none
+              go : (b' : Bool) → cond b' (next.moment + sending rate (head_length b 0)) turn.due ≤ 2 ^ 53 + suc i * 2 ^ 34
+              go true = omega (arith, moment_low, rounded_most (head_length b 0 * 1000000) rate, line_length)
+              go false = omega (arith, reached.due_low)
 
-          fit_next : Fit tree (list (suc i))
-          fit_next = fit_longer tree arrivals rate (suc i) (omega (arith, room.events_room)) ground.fit fine_next
-
-          pub comes : Coming way tree (list (suc i)) i check.row sent a f bytes held since parent_since lasts links order
-          comes =
+          pub goes_on : {arrived' due' : ℕ} → arrived' ≡ turn.arrived + cond next.finish 0 1
+              → due' ≡ cond (next.finish || idles) (next.moment + sending rate (head_length b 0)) turn.due
+              → Reached Filed' tree arrivals rate (suc i) (record { arrived = arrived'; due = due'; sent = sent' }) b d lasts' links' (set classes i next.class) (set lengths i next.length)
+          goes_on {arrived'} {due'} arrived_is is =
+              let written = listed_next tree arrivals rate i classes lengths room.classes_room room.lengths_room reached.classes_are reached.lengths_are in
               record {
-                fit = fit_next;
-                inside = omega (arith, listed_count tree arrivals rate (suc i));
-                row_is = met.row none ∙ ap (row_for tree) (event_is ∙ sym (event_listed tree arrivals rate (suc i) i (omega arith)));
-                links_room = omega (arith, listed_count tree arrivals rate (suc i), room.links_room);
-                order_room = omega (arith, listed_count tree arrivals rate (suc i), room.order_room);
-                now = now_longer tree arrivals rate i ok reached.unlinked reached.now;
+                fine = fine_next;
+                arrived_are = arrived_is ∙ rw (arrived_next tree arrivals rate i, next_is.finish, reached.arrived_are);
+                due_is = due_is due' is;
+                due_low = due_low due' is;
+                now = gone.now;
+                unlinked = λ j from.
+                    beyond links links' (suc i) (rw (listed_count tree arrivals rate (suc i)) at gone.links_rest) j from ∙ reached.unlinked j (omega arith);
+                classes_are = rw next_is.class written.0;
+                lengths_are = rw next_is.length written.1;
               }
-
-          module _
-              {b : Rows} {g : Forest} {sent' : ℕ} {bytes' held' since' parent_since' lasts' links' order' : List ℕ}
-              (gone : Gone way tree (list (suc i)) i sent' b g bytes' held' since' parent_since' lasts' links links' order order') where
-            -- the packet on the line then is no longer than a packet may be
-            pub line_length : head_length b 0 ≤ most_bytes
-            line_length =
-                rw (← gone.now.rows_are)
-                (heads_below tree (list (suc i)) (suc i) 0 (record { sound = ok.sound; each = fine_next }) ok.sound.some_rows)
-
-            due_is : (due' : ℕ) → due' ≡ cond (next.finish || idles) (next.moment + sending rate (head_length b 0)) due
-                → due' ≡ (progress tree arrivals rate (suc i)).due
-            unfolding due_next
-            due_is due' is =
-                is
-                ∙ rw (
-                  due_later tree arrivals rate i,
-                  ← box_listed tree arrivals rate (suc i) (suc i) (omega arith),
-                  gone.now.rows_are,
-                  next_is.finish,
-                  next_is.moment,
-                  idle_is,
-                  reached.due_is,
-                )
-
-            due_low : (due' : ℕ) → due' ≡ cond (next.finish || idles) (next.moment + sending rate (head_length b 0)) due → due' ≤ 2 ^ 53 + suc i * 2 ^ 34
-            unfolding sending
-            due_low due' is = rw is (go (next.finish || idles))
-              where
-                go : (b' : Bool) → cond b' (next.moment + sending rate (head_length b 0)) due ≤ 2 ^ 53 + suc i * 2 ^ 34
-                go true = omega (arith, moment_low, rounded_most (head_length b 0 * 1000000) rate, line_length)
-                go false = omega (arith, reached.due_low)
-
-            pub goes_on : {arrived' due' : ℕ} → arrived' ≡ arrived + cond next.finish 0 1
-                → due' ≡ cond (next.finish || idles) (next.moment + sending rate (head_length b 0)) due
-                → Reached way tree arrivals rate (suc i) arrived' due' sent' b g bytes' held' since' parent_since' lasts' links' (set classes i next.class) (set lengths i next.length)
-            goes_on {arrived'} {due'} arrived_is is =
-                let written = listed_next tree arrivals rate i classes lengths room.classes_room room.lengths_room reached.classes_are reached.lengths_are in
-                record {
-                  fine = fine_next;
-                  arrived_are = arrived_is ∙ rw (arrived_next tree arrivals rate i, next_is.finish, reached.arrived_are);
-                  due_is = due_is due' is;
-                  due_low = due_low due' is;
-                  now = gone.now;
-                  unlinked = λ j from.
-                      beyond links links' (suc i) (rw (listed_count tree arrivals rate (suc i)) at gone.links_rest) j from ∙ reached.unlinked j (omega arith);
-                  classes_are = rw next_is.class written.0;
-                  lengths_are = rw next_is.length written.1;
-                }

@@ -11,9 +11,10 @@ use borrow.Author.Tests.{ne_eqb, eqb-true}
 use Rattle.text.specs.declared.Field.{Field}
 use Rattle.text.specs.declared.Field.TheVariants.{Empty, Number, Over, Other}
 use Rattle.text.specs.declared.Line.{Line}
-use Rattle.text.specs.declared.Found.TheVariants.{Row, WrongCount}
+use Rattle.std.specs.Prelude.{Err}
+use Rattle.text.specs.declared.Fault.TheVariants.{WrongCount}
 use Rattle.text.specs.declared.Scan.{Scan}
-use Rattle.text.specs.Reading.{empty_line, comma, carriage_return, line_feed, with_byte, commas_with, field_with, grown, settled, holding, longer, number_in, from_second, numbers, shown, wrong, lines_after, ended, within, after, after_all}
+use Rattle.text.specs.Reading.{empty_line, comma, carriage_return, line_feed, with_byte, commas_with, field_with, grown, settled, holding, longer, number_in, row_of, numbers, shown, wrong, lines_after, ended, within, after, after_all}
 
 -- ── one line ──
 
@@ -114,10 +115,10 @@ lengthens line byte = go (eqb byte carriage_return)
 
 -- the line of an event has all three parts
 numbers_whole : (line : Line) → wrong (numbers line) ≡ false → filled line.first + filled line.second ≡ 2
-unfolding numbers number_in from_second filled
+unfolding numbers number_in row_of filled
 numbers_whole line good = go line.first line.second good
   where
-    go : (first second : Field) → wrong (number_in 1 first (λ (n : ℕ). number_in 2 second (Row n))) ≡ false → filled first + filled second ≡ 2
+    go : (first second : Field) → wrong (row_of (number_in 1 first) (number_in 2 second)) ≡ false → filled first + filled second ≡ 2
     go (Number n) (Number m) good = refl
     go (Number n) Empty good = absurd (let z : ◌≡◌ {A = ℕ} 0 1 = cc in omega arith)
     go (Number n) Over good = absurd (let z : ◌≡◌ {A = ℕ} 0 1 = cc in omega arith)
@@ -130,7 +131,7 @@ shown_whole : (lines : ℕ) (line : Line) → wrong (shown (suc lines) line) ≡
 unfolding shown begun parts
 shown_whole lines line good = go (eqb line.commas 1) refl (rw (ne_eqb (suc lines) 0 (λ same. omega arith)) at good)
   where
-    go : (b : Bool) → eqb line.commas 1 ≡ b → wrong (cond (eqb line.commas 1) (numbers line) WrongCount) ≡ false
+    go : (b : Bool) → eqb line.commas 1 ≡ b → wrong (cond (eqb line.commas 1) (numbers line) (Err WrongCount)) ≡ false
         → min 3 (filled line.first + min 1 line.commas + filled line.second + one_if line.held) ≡ 3
     go true is good = let comma = eqb-true line.commas 1 is in let both = numbers_whole line (rw is at good) in omega arith
     go false is good = let bad = rw is at good in absurd (let z : ◌≡◌ {A = ℕ} 0 1 = cc in omega arith)

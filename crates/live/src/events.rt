@@ -5,209 +5,133 @@ ghost use Rattle.live_rules.specs.Layout.{state_words};
 use crate::answers::print_heading;
 use crate::reads::{MOST_A_READ, take};
 use crate::states::load_sound;
-use files::unreadable::cannot_open;
-use files::{Status, Turn, argument, errors, judged, open, read_some};
+use files::{Stopped, argument, cannot_open, first, judged, open, read_some};
 use input::{MOST_ROWS, REPORT_WORDS};
 use live_rules::STATE_WORDS;
+use sentences::Lists;
 use std::io::Read;
 use text::Scan;
 
 // Which argument names the list.
 pub const EVENTS: usize = 3;
 
-// How far a list is taken: whether more may come, how it ends as far as it is known, how many events were read, and the scan, in which only
-// the heading is counted.
-#[derive(Clone, Copy)]
+// How far a list is taken: whether one of its events was refused, how many were read, and the scan, in which only the heading is counted.
+#[derive(Drop)]
 struct Taken {
-    more: bool,
-    status: Status,
+    refused: bool,
     events: u64,
     scan: Scan,
 }
 
-pub fn events(rt: &HostRuntime) -> Status {
+pub fn events(rt: &HostRuntime) -> Result<(), Stopped> {
     let mut state = [0u64; STATE_WORDS];
     let mut report = [0u64; REPORT_WORDS * MOST_ROWS];
     let mut lags = [0i64; MOST_ROWS];
-    let status = load_sound(rt, &mut state, &mut report, &mut lags);
-    if let Status::Done = status {
-        return with_state(rt, &mut state);
-    }
-    status
+    load_sound(rt, &mut state, &mut report, &mut lags)?;
+    with_state(rt, &mut state)
 }
 
 // Prints the heading and goes on. The longest argument that the system passes has 131,071 bytes.
-fn with_state(rt: &HostRuntime, state: &mut [u64]) -> Status
+fn with_state(rt: &HostRuntime, state: &mut [u64]) -> Result<(), Stopped>
     requires { state_words ≤ length state.old }
 {
-    if !print_heading(rt) {
-        return Status::Failed;
-    }
+    print_heading(rt)?;
     let mut name = [0u8; 131072];
     let length = argument(rt, EVENTS, &mut name);
     with_list(rt, &name[..length], state)
 }
 
-fn with_list(rt: &HostRuntime, name: &[u8], state: &mut [u64]) -> Status
+fn with_list(rt: &HostRuntime, name: &[u8], state: &mut [u64]) -> Result<(), Stopped>
     requires { state_words ≤ length state.old }
 {
     match open(rt, name) {
         Ok(mut file) => take_all(rt, &mut file, name, state),
-        Err(error) => {
-            cannot_open(name, errors::number(error));
-            Status::Failed
-        }
+        Err(error) => Err(cannot_open(name, error)),
     }
 }
 
-// Takes the events to the end of the list. A loop has to end, and nothing says that a file does, so this one counts its turns down from a
-// number that no list uses up.
-fn take_all(rt: &HostRuntime, file: &mut impl Read, name: &[u8], state: &mut [u64]) -> Status
-    requires { state_words ≤ length state.old }
-{
-    let mut taken = Taken {
-        more: true,
-        status: Status::Done,
-        events: 0,
-        scan: text::begin(),
-    };
-    let mut turns = u64::MAX;
-    while turns > 0 {
-        if !taken.more {
-            return taken.status;
-        }
-        taken = take_some(rt, file, name, taken, state);
-        turns -= 1;
-    }
-    Status::Failed
-}
-
-// Takes the events of one read.
-fn take_some(
+// Takes the events to the end of the list. A loop has to end, and nothing says that a file does, so this one has a number of turns that no
+// list uses up.
+fn take_all(
     rt: &HostRuntime,
     file: &mut impl Read,
     name: &[u8],
-    taken: Taken,
     state: &mut [u64],
-) -> Taken
+) -> Result<(), Stopped>
     requires { state_words ≤ length state.old }
 {
-    let mut classes = [0u32; MOST_A_READ];
-    let mut lengths = [0u32; MOST_A_READ];
-    let start = taken.scan;
-    let turn = read_some(file, start, &mut classes, &mut lengths);
-    let scan = turn.scan;
-    let count = events_of(scan.lines);
-    let status = take(rt, &classes, &lengths, count, taken.events, state);
-    if let Status::Failed = status {
-        return stopped(status);
+    let mut taken = Taken {
+        refused: false,
+        events: 0,
+        scan: Scan::begin(),
+    };
+    for _ in 0..u64::MAX {
+        if !taken.take_some(rt, file, name, state)? {
+            return taken.ended();
+        }
     }
-    let before = taken.status;
-    onwards(
-        name,
-        turn,
-        worse(before, status),
-        sum(taken.events, count as u64),
-    )
+    Err(Stopped::Failed)
 }
 
-// How many events a read with so many lines has; the heading is one of these.
-fn events_of(lines: u64) -> u32 {
-    if lines == 0 {
-        return 0;
+impl Taken {
+    // Takes the events of one read, and answers whether more may come.
+    fn take_some(
+        &mut self,
+        rt: &HostRuntime,
+        file: &mut impl Read,
+        name: &[u8],
+        state: &mut [u64],
+    ) -> Result<bool, Stopped>
+        requires { state_words ≤ length state.old }
+    {
+        let mut classes = [0u32; MOST_A_READ];
+        let mut lengths = [0u32; MOST_A_READ];
+        let read = read_some(file, self.scan, &mut classes, &mut lengths).map_err(
+            |error| cannot_open(name, error),
+        )?;
+        match read {
+            Some(scan) => {
+                let count = scan.lines.saturating_sub(1);
+                let list = Lists {
+                    classes: first(&classes, count),
+                    lengths: first(&lengths, count),
+                };
+                self.refused |= take(rt, list, self.events, state)?;
+                self.go_on(name, scan, list.classes.len())
+            }
+            None => self.judge(name, self.scan),
+        }
     }
-    if lines > MOST_A_READ as u64 {
-        return MOST_A_READ as u32;
-    }
-    (lines - 1) as u32
-}
 
-// How it goes on after a read, with the status and the events so far.
-fn onwards(name: &[u8], turn: Turn, status: Status, events: u64) -> Taken {
-    let scan = turn.scan;
-    if goes_on(turn) {
-        return Taken {
-            more: true,
-            status,
-            events,
-            scan: counting(scan, heading_of(scan)),
+    // Goes on after a read of so many events, where no line was wrong.
+    fn go_on(&mut self, name: &[u8], scan: Scan, count: usize) -> Result<bool, Stopped> {
+        self.events = self.events.saturating_add(count as u64);
+        if scan.found.is_err() {
+            return self.judge(name, scan);
+        }
+        self.scan = Scan {
+            lines: heading_of(scan),
+            ..scan
         };
+        Ok(true)
     }
-    stopped(worse(status, ended(name, turn, events)))
-}
 
-// Whether more may come, and no line was wrong.
-fn goes_on(turn: Turn) -> bool {
-    if !turn.more {
-        return false;
+    // No more comes: says what is wrong with the list, if something is.
+    fn judge(&self, name: &[u8], scan: Scan) -> Result<bool, Stopped> {
+        let lines = self.events.saturating_add(heading_of(scan));
+        judged(name, Scan { lines, ..scan })?;
+        Ok(false)
     }
-    let scan = turn.scan;
-    let found = scan.found;
-    !text::wrong(found)
-}
 
-// How a list of so many events ended; what is wrong with it is said.
-fn ended(name: &[u8], turn: Turn, events: u64) -> Status {
-    let scan = turn.scan;
-    let end = judged(
-        name,
-        Turn {
-            more: false,
-            failed: turn.failed,
-            error: turn.error,
-            scan: counting(scan, sum(events, heading_of(scan))),
-        },
-    );
-    end.status
+    fn ended(self) -> Result<(), Stopped> {
+        if self.refused {
+            return Err(Stopped::Refused);
+        }
+        Ok(())
+    }
 }
 
 // 1 once the heading is read.
 fn heading_of(scan: Scan) -> u64 {
-    if scan.lines == 0 { 0 } else { 1 }
-}
-
-// The scan with this count of lines.
-fn counting(scan: Scan, lines: u64) -> Scan {
-    let line = scan.line;
-    let found = scan.found;
-    Scan {
-        lines,
-        inside: scan.inside,
-        line,
-        found,
-    }
-}
-
-fn stopped(status: Status) -> Taken {
-    Taken {
-        more: false,
-        status,
-        events: 0,
-        scan: text::begin(),
-    }
-}
-
-// The worse of two ends.
-fn worse(one: Status, other: Status) -> Status {
-    match one {
-        Status::Done => other,
-        Status::Refused => at_least_refused(other),
-        Status::Failed => one,
-    }
-}
-
-fn at_least_refused(status: Status) -> Status {
-    match status {
-        Status::Done => Status::Refused,
-        Status::Refused => status,
-        Status::Failed => status,
-    }
-}
-
-// Both numbers together, as far as numbers go.
-pub fn sum(a: u64, b: u64) -> u64 {
-    if u64::MAX - a < b {
-        return u64::MAX;
-    }
-    a + b
+    scan.lines.min(1)
 }

@@ -11,74 +11,41 @@ mod refusals;
 mod reporting;
 mod states;
 
-use check::same;
-use files::{Status, argument, argument_count, argument_is_input, complain, end_with};
-
-// What a call asks for, by its first word.
-#[derive(Clone, Copy)]
-enum Asked {
-    Fresh,
-    Events,
-    Report,
-    Nothing,
-}
+use files::{Stopped, argument, argument_count, argument_is_input, complain, end_with};
 
 fn main(rt: HostRuntime) {
     end_with(called(&rt));
 }
 
-// Looks at the call and goes on.
-fn called(rt: &HostRuntime) -> Status {
+// Looks at the call and goes on, by its first word and by how many arguments there are, the program's own name among them.
+fn called(rt: &HostRuntime) -> Result<(), Stopped> {
     let mut word = [0u8; 8];
     let length = argument(rt, 1, &mut word);
-    let asked = asks(&word[..length], argument_count(rt));
-    match asked {
-        Asked::Fresh => with_files(rt, fresh::STATE, asked),
-        Asked::Events => with_files(rt, states::STATE, asked),
-        Asked::Report => with_files(rt, states::STATE, asked),
-        Asked::Nothing => complain(
+    match (argument_count(rt), &word[..length]) {
+        (4, b"fresh") => {
+            of_its_own(rt, fresh::STATE)?;
+            fresh::fresh(rt)
+        }
+        (4, b"events") => {
+            of_its_own(rt, states::STATE)?;
+            events::events(rt)
+        }
+        (3, b"report") => {
+            of_its_own(rt, states::STATE)?;
+            reporting::report(rt)
+        }
+        _ => Err(complain(
             b"cannot read: give what to do and its files, live fresh TABLE STATE, live events STATE EVENTS or live report STATE\n",
-        ),
+        )),
     }
 }
 
-// By the word and by how many arguments there are, the program's own name among them.
-fn asks(word: &[u8], arguments: usize) -> Asked {
-    match arguments {
-        3 => one_file(word),
-        4 => two_files(word),
-        _ => Asked::Nothing,
-    }
-}
-
-fn one_file(word: &[u8]) -> Asked {
-    if same(word, b"report") {
-        return Asked::Report;
-    }
-    Asked::Nothing
-}
-
-fn two_files(word: &[u8]) -> Asked {
-    if same(word, b"fresh") {
-        return Asked::Fresh;
-    }
-    if same(word, b"events") {
-        return Asked::Events;
-    }
-    Asked::Nothing
-}
-
-// Does what is asked for, of a state that an argument names.
-fn with_files(rt: &HostRuntime, state: usize, asked: Asked) -> Status {
+// The state that an argument names is no standard input.
+fn of_its_own(rt: &HostRuntime, state: usize) -> Result<(), Stopped> {
     if argument_is_input(rt, state) {
-        return complain(
+        return Err(complain(
             b"cannot read: the state is a file of its own and cannot be standard input; a file called - is ./-\n",
-        );
+        ));
     }
-    match asked {
-        Asked::Fresh => fresh::fresh(rt),
-        Asked::Events => events::events(rt),
-        Asked::Report => reporting::report(rt),
-        Asked::Nothing => Status::Failed,
-    }
+    Ok(())
 }

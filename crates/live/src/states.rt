@@ -4,42 +4,26 @@ ghost use Rattle.live_rules.specs.Layout.{state_words};
 
 use crate::answers::{print_answer, refusal};
 use crate::refusals::say_unsound;
-use files::{Status, refused};
-use state_files::{Reading, load_state};
+use files::Stopped;
+use state_files::load_state;
 
 // Which argument names it.
 pub const STATE: usize = 2;
 
-// Reads the state and makes its report, by which an unsound one is told. Done where there is one.
+// Reads the state and makes its report, by which an unsound one is told, and refused by 20. Done where there is one.
 pub fn load_sound(
     rt: &HostRuntime,
     state: &mut [u64],
     report: &mut [u64],
     lags: &mut [i64],
-) -> Status
+) -> Result<(), Stopped>
     requires { state_words ≤ length state.old }
 {
-    let reading = load_state(rt, STATE, state);
-    match reading {
-        Reading::Whole => tested(rt, state, report, lags),
-        Reading::Otherwise => unsound(rt),
-        Reading::Failed => Status::Failed,
+    let whole = load_state(rt, STATE, state)?;
+    if whole && live_box::report(state, report, lags).number == 0 {
+        return Ok(());
     }
-}
-
-fn tested(rt: &HostRuntime, state: &[u64], report: &mut [u64], lags: &mut [i64]) -> Status {
-    let answer = live_box::report(state, report, lags);
-    if answer.number == 0 {
-        return Status::Done;
-    }
-    unsound(rt)
-}
-
-// 20.
-fn unsound(rt: &HostRuntime) -> Status {
-    let written = print_answer(rt, refusal(20, 0, 0));
-    if written {
-        say_unsound(rt);
-    }
-    refused(written)
+    print_answer(rt, refusal(20, 0, 0))?;
+    say_unsound(rt);
+    Err(Stopped::Refused)
 }

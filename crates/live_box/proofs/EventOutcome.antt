@@ -20,7 +20,10 @@ use Rattle.rules.specs.Box.{head, has_head}
 use Rattle.rules.specs.Refused.{idle}
 use Rattle.tables.specs.Answers.{refusal_of}
 use Rattle.tables.proofs.Firsts.{or_else_first, or_else_second}
-use Rattle.checks.specs.Counted.{Found}
+use Rattle.tables.specs.Stated.{Finds}
+use Rattle.tables.specs.Judged.{Refuses}
+use Rattle.tables.proofs.Judging.{at_first, at_second}
+use Rattle.checks.specs.Counted.{Places, Found}
 use Rattle.live_rules.specs.Layout.{state_words}
 use Rattle.live_rules.specs.State.{Live, box_of, tree_in, live_with, live_in}
 use Rattle.live_rules.specs.Soundness.{sound}
@@ -31,6 +34,9 @@ use Rattle.live_laws.proofs.Taking.{arrival_passes, room_passes, finish_passes}
 use Rattle.state.specs.declared.State.{State}
 use Rattle.state.specs.Opened.{Opened}
 use Rattle.taking.specs.Taken.{ArrivalTakes, FinishTakes, left_of, taken}
+use Rattle.std.specs.Prelude.{Option, None, Some, Result, Ok, Err, IfSome}
+use Rattle.std.specs.Result.{IsErrAnd}
+use Rattle.live_box.specs.Calls.{answer_of}
 use Rattle.live_box.specs.Met.{Read, met}
 use Rattle.live_box.proofs.StateRefused.{short_refused, unsound_refused, sound_passes}
 use Rattle.live_laws.proofs.Calls.{holds_in}
@@ -55,18 +61,18 @@ decoded_size class length_word k size is = go (eqb class 0) is
     go false is = sym (ap size_of is)
 
 module _ (words : List ℕ) (class length_word : ℕ) where
-  refusal_left : (r : Refusal) → state_refused false words ≡ r → r.number ≢ 0 → Took words class length_word (left_of (refusing r) words)
+  refusal_left : (r : Refusal) → state_refused false words ≡ r → r.number ≢ 0 → Took words class length_word (left_of (answer_of (Err r)) words)
   unfolding event_outcome first
   refusal_left r is some = rw (is, or_else_first r _ some, ne_eqb r.number 0 some)
 
-  pub short_left : (r : Refusal) → r ≡ refusal_of 3 0 0 → length words < state_words → Took words class length_word (left_of (refusing r) words)
+  pub short_left : (r : Refusal) → r ≡ refusal_of 3 0 0 → length words < state_words → Took words class length_word (left_of (answer_of (Err r)) words)
   short_left r is short =
       rw is
       (refusal_left (refusal_of 3 0 0) (short_refused false words (lt-ltb (length words) state_words short)) (λ none. omega arith))
 
   module _ (room : state_words ≤ length words) where
     pub unsound_left :
-        (r : Refusal) → r ≡ refusal_of 20 0 0 → sound (live_in words) ≡ false → Took words class length_word (left_of (refusing r) words)
+        (r : Refusal) → r ≡ refusal_of 20 0 0 → sound (live_in words) ≡ false → Took words class length_word (left_of (answer_of (Err r)) words)
     unsound_left r is unsound =
         rw is
         (refusal_left (refusal_of 20 0 0) (unsound_refused false words (le-ltb (length words) state_words room) unsound) (λ none. omega arith))
@@ -109,17 +115,50 @@ module _ (words : List ℕ) (class length_word : ℕ) where
 
 -- ── the refusals of the event ──
 
-module _ (words : List ℕ) (word : ℕ) (event : Event) (refusal : Refusal) (is : refusal ≡ event_refused (live_in words) word event) where
-  pub refused_met : refusal.number ≢ 0 → left_of (refusing refusal) words ≡ met words word event
+module _ (words : List ℕ) (word : ℕ) (event : Event) where
+  -- a refusal that is handed on
+  pub refused_met :
+      (e : Refusal) (r : Result (Option ℕ) Refusal) → IsErrAnd r (λ x. x ≡ e) → Refuses (event_refused (live_in words) word event) e
+      → left_of (answer_of r) words ≡ met words word event
   unfolding met
-  refused_met some = rw (← is, ne_eqb refusal.number 0 some) refl
+  refused_met e (Ok sent) same judged = absurd same
+  refused_met e (Err x) same judged = rw (same, judged.1, ne_eqb (event_refused (live_in words) word event).number 0 judged.0) refl
 
-  pub taken_met : refusal.number ≡ 0 → met words word event ≡ taken words event
+  pub taken_met : (event_refused (live_in words) word event).number ≡ 0 → met words word event ≡ taken words event
   unfolding met
-  taken_met none = rw (← is, eq-eqb refusal.number 0 none) refl
+  taken_met none = rw (eq-eqb (event_refused (live_in words) word event).number 0 none) refl
 
-  pub not_refused : refusal.number ≡ 0 → (event_refused (live_in words) word event).number ≡ 0
-  not_refused none = ap (λ (r : Refusal). r.number) (sym is) ∙ none
+-- of an arrival what the check refuses, then 21 and 22
+module _ (live : Live) (class size : ℕ) where
+  abbrev checked : Refusal
+  checked = meeting_refused live.tree 0 size (Arrival class size) (idle (box_of live))
+
+  pub arrival_first : (r : Refusal) → Refuses checked r → Refuses (event_refused live size (Arrival class size)) r
+  unfolding event_refused
+  arrival_first r judged = at_first checked _ r judged
+
+  module _ (fine : checked.number ≡ 0) where
+    pub arrival_full : (r : Refusal) → Refuses (full_refused live (Arrival class size)) r → Refuses (event_refused live size (Arrival class size)) r
+    unfolding event_refused
+    arrival_full r judged = at_second checked _ (tt {0}) (Err r) fine judged
+
+    pub arrival_passed :
+        (full_refused live (Arrival class size)).number ≡ 0 → (event_refused live size (Arrival class size)).number ≡ 0
+    unfolding event_refused
+    arrival_passed none = ap (λ (r : Refusal). r.number) (or_else_second checked _ fine) ∙ none
+
+-- of a finish what the check refuses
+module _ (live : Live) (word : ℕ) where
+  abbrev finish_checked : Refusal
+  finish_checked = meeting_refused live.tree 0 word Finish (idle (box_of live))
+
+  pub finish_first : (r : Refusal) → Refuses finish_checked r → Refuses (event_refused live word Finish) r
+  unfolding event_refused
+  finish_first r judged = at_first finish_checked _ r judged
+
+  pub finish_passed : finish_checked.number ≡ 0 → (event_refused live word Finish).number ≡ 0
+  unfolding event_refused full_refused nothing
+  finish_passed none = ap (λ (r : Refusal). r.number) (or_else_second finish_checked _ none)
 
 -- ── what the state has for the checks ──
 
@@ -133,42 +172,34 @@ module _ (words : List ℕ) (state : State) (read : Read words state) where
   holds : Holds live
   holds = holds_in words read.long read.is_sound
 
-  pub few_rows : state.rows ≤ most_rows
+  pub few_rows : state.rows_count ≤ most_rows
   few_rows = let few = holds.counted.few_rows in let rows = opened.rows in omega arith
 
-  pub as_long : state.rows ≡ length (take state.rows state.identifiers)
+  pub as_long : state.rows_count ≡ length (take state.rows_count state.identifiers)
   as_long = opened.rows ∙ sym holds.shaped.identifiers ∙ ap length (sym opened.identifiers)
 
-  pub enough : state.rows ≤ length state.identifiers
-  enough = let long = as_long in let short = length-take state.rows state.identifiers in omega arith
+  pub enough : state.rows_count ≤ length state.identifiers
+  enough = let long = as_long in let short = length-take state.rows_count state.identifiers in omega arith
 
   -- an arrival
-  module _ (class size row : ℕ) (finds : row ≡ place_of class (take state.rows state.identifiers)) where
-    row_is : row ≡ row_of live.tree class
+  module _ (class size : ℕ) where
+    places : (row : Option ℕ) → Finds (take state.rows_count state.identifiers) class row → Places live.tree class row
     unfolding row_of
-    row_is = finds ∙ ap (place_of class) opened.identifiers
+    places (Some r) finds =
+        (finds.0 ∙ ap (place_of class) opened.identifiers, let long = as_long in let rows = opened.rows in omega (arith, finds.1))
+    places None finds = ap (place_of class) (sym opened.identifiers) ∙ finds ∙ sym as_long ∙ opened.rows
 
-    pub class_found : Found live.tree state.rows state.senders class row
-    class_found =
-        record {
-          rows_are = sym opened.rows;
-          row_is = row_is;
-          sending = λ r inside. sym (opened.senders r inside);
-        }
+    pub row_inside : (row : Option ℕ) → Finds (take state.rows_count state.identifiers) class row → IfSome row (λ r. r < most_rows)
+    row_inside (Some r) finds = let long = as_long in let few = few_rows in omega (arith, finds.1)
+    row_inside None finds = tt
 
-    pub row_of_class : row_of live.tree class ≡ row
-    row_of_class = sym row_is
-
-    pub arrival_refused :
-        (checked full refusal : Refusal) → checked ≡ meeting_refused live.tree 0 size (Arrival class size) (idle (box_of live))
-        → full ≡ full_refused live (Arrival class size) → refusal ≡ or_else checked full → refusal ≡ event_refused live size (Arrival class size)
-    unfolding event_refused
-    arrival_refused checked full refusal one other is = rw (is, one, other) refl
+    pub class_found : (row : Option ℕ) → Finds (take state.rows_count state.identifiers) class row → Found live.tree state.senders class row
+    class_found row finds =
+        record { row_is = places row finds; sending = λ r inside. sym (opened.senders r (rw opened.rows inside)) }
 
     pub arrival_takes :
-        (refusal : Refusal) → refusal ≡ event_refused live size (Arrival class size) → refusal.number ≡ 0 → ArrivalTakes live state row size
-    arrival_takes refusal is none =
-        let passes = not_refused words size (Arrival class size) refusal is none in
+        (k : ℕ) → k ≡ row_of live.tree class → (event_refused live size (Arrival class size)).number ≡ 0 → ArrivalTakes live state k size
+    arrival_takes k row_is passes =
         let fits = arrival_passes live holds size class size passes in
         let room = room_passes live holds size class size passes in
         record {
@@ -182,25 +213,13 @@ module _ (words : List ℕ) (state : State) (read : Read words state) where
         }
 
   -- the line's finish
-  pub line_idle : eqb (get_or state.heads 0 0) 0 ≡ idle (box_of live)
+  pub line_idle : eqb (get_or state.rows.heads 0 0) 0 ≡ idle (box_of live)
   unfolding idle box_of has_head
   line_idle = rw opened.heads (twice (eqb (head live.rows 0) 0))
     where
       twice : (b : Bool) → b ≡ not (not b)
       twice true = refl
       twice false = refl
-
-  pub finish_refused :
-      (word : ℕ) (refusal : Refusal) → refusal ≡ meeting_refused live.tree 0 word Finish (idle (box_of live))
-      → refusal.number ≢ 0 → refusal ≡ event_refused live word Finish
-  unfolding event_refused
-  finish_refused word refusal is some = is ∙ sym (or_else_first _ _ (rw is at some))
-
-  pub finish_passed :
-      (word : ℕ) (refusal : Refusal) → refusal ≡ meeting_refused live.tree 0 word Finish (idle (box_of live)) → refusal.number ≡ 0
-      → (event_refused live word Finish).number ≡ 0
-  unfolding event_refused full_refused nothing
-  finish_passed word refusal is none = ap (λ (r : Refusal). r.number) (or_else_second _ _ (rw is at none))
 
   pub finish_takes : (word : ℕ) → (event_refused live word Finish).number ≡ 0 → FinishTakes live state
   finish_takes word passes = record { holds = holds; opened = opened; busy = finish_passes live holds word passes }

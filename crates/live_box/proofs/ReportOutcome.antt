@@ -23,12 +23,13 @@ use Rattle.tables.specs.Answers.{refusal_of}
 use Rattle.live_rules.specs.Layout.{state_words}
 use Rattle.live_rules.specs.State.{Live, box_of, tree_in, live_with, live_in}
 use Rattle.live_rules.specs.Soundness.{sound}
-use Rattle.live_rules.specs.Outcomes.{refusing, doing, state_refused, report_short, report_outcome, Tells}
+use Rattle.live_rules.specs.Outcomes.{state_refused, report_short, report_outcome, Tells}
 use Rattle.live_laws.specs.Holds.{Holds}
 use Rattle.live_laws.proofs.Narrowing.{narrow, fits}
 use Rattle.state.specs.declared.State.{State}
 use Rattle.state.specs.Opened.{Opened}
-use Rattle.live_box.specs.Calls.{told_of}
+use Rattle.std.specs.Prelude.{Ok, Err}
+use Rattle.live_box.specs.Calls.{done_of, told_of}
 use Rattle.live_box.specs.Reports.{Tellable, Written}
 use Rattle.live_box.proofs.StateRefused.{short_refused, unsound_refused, sound_passes}
 
@@ -39,24 +40,24 @@ module _ (words report : List ℕ) (lags : List ℤ) where
   abbrev pub short : Bool
   short = (ltb (length report) (report_words * most_rows) || ltb (length lags) most_rows) || ltb (length words) state_words
 
-  refusal_left : (r : Refusal) → state_refused (report_short report lags) words ≡ r → r.number ≢ 0 → Tells words report lags (told_of (refusing r) report lags)
+  refusal_left : (r : Refusal) → state_refused (report_short report lags) words ≡ r → r.number ≢ 0 → Tells words report lags (told_of (done_of (Err r)) report lags)
   unfolding report_outcome
   refusal_left r is some = rw (is, ne_eqb r.number 0 some)
 
-  pub short_left : (r : Refusal) → r ≡ refusal_of 3 0 0 → short ≡ true → Tells words report lags (told_of (refusing r) report lags)
+  pub short_left : (r : Refusal) → r ≡ refusal_of 3 0 0 → short ≡ true → Tells words report lags (told_of (done_of (Err r)) report lags)
   unfolding report_short
   short_left r is yes_short =
       rw is (refusal_left (refusal_of 3 0 0) (short_refused (report_short report lags) words yes_short) (λ none. omega arith))
 
   module _ (room : short ≡ false) where
-    pub unsound_left : (r : Refusal) → r ≡ refusal_of 20 0 0 → sound (live_in words) ≡ false → Tells words report lags (told_of (refusing r) report lags)
+    pub unsound_left : (r : Refusal) → r ≡ refusal_of 20 0 0 → sound (live_in words) ≡ false → Tells words report lags (told_of (done_of (Err r)) report lags)
     unfolding report_short
     unsound_left r is unsound =
         rw is (refusal_left (refusal_of 20 0 0) (unsound_refused (report_short report lags) words room unsound) (λ none. omega arith))
 
     pub written_left :
         (report' : List ℕ) (lags' : List ℤ) → sound (live_in words) ≡ true → Written (live_in words) report lags report' lags'
-        → Tells words report lags (told_of (doing []) report' lags')
+        → Tells words report lags (told_of (done_of (Ok tt)) report' lags')
     unfolding report_outcome report_short nothing
     written_left report' lags' is_sound written =
         rw (sound_passes (report_short report lags) words room is_sound, written.report_is, written.lags_are)
@@ -81,7 +82,7 @@ module _ (words report : List ℕ) (lags : List ℤ) where
 -- ── what a state that was read has for them ──
 
 module _ (live : Live) (r : State) (opened : Opened live r) where
-  pub shown : Shown (box_of live) r.starts r.finishes r.virtuals r.bytes r.held
+  pub shown : Shown (box_of live) r.rows r.counts
   unfolding box_of
   shown =
       record {
@@ -92,7 +93,7 @@ module _ (live : Live) (r : State) (opened : Opened live r) where
         held = sym opened.held;
       }
 
-  pub counts_are : Counts (box_of live) r.bytes r.held r.since r.parent_since
+  pub counts_are : Counts (box_of live) r.counts
   unfolding box_of
   counts_are =
       record {
@@ -102,14 +103,14 @@ module _ (live : Live) (r : State) (opened : Opened live r) where
         parent_since = sym opened.parent_since;
       }
 
-  pub shares_are : Shares live.tree r.parents r.shares
+  pub shares_are : Shares live.tree r.tree
   shares_are = record { parents = sym opened.parents; shares = sym opened.shares }
 
   -- by how many rows are in use
   pub written :
       (report : List ℕ) (lags : List ℤ) (report' : List ℕ) (lags' : List ℤ)
-      → report' ≡ over (report_of live.tree (box_of live) r.rows) report
-      → lags' ≡ over (lags_of live.tree (box_of live) r.rows) lags
+      → report' ≡ over (report_of live.tree (box_of live) r.rows_count) report
+      → lags' ≡ over (lags_of live.tree (box_of live) r.rows_count) lags
       → Written live report lags report' lags'
   written report lags report' lags' one two =
       record {
@@ -118,7 +119,7 @@ module _ (live : Live) (r : State) (opened : Opened live r) where
       }
 
   module _ (holds : Holds live) where
-    past : Past r.rows r.parents r.bytes r.since r.parent_since
+    past : Past r.rows_count r.tree.parents r.counts
     unfolding box_of
     past =
         rw (opened.rows, opened.parents, opened.bytes, opened.since, opened.parent_since)

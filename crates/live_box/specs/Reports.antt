@@ -9,12 +9,12 @@ use Rattle.state.specs.declared.State.{State}
 
 -- the numbers that a report's lags are worked out of are within bounds, and the root is no sending class
 pub record Tellable (r : State) : Type 0 where
-  pub few : r.rows ≤ most_rows
-  pub root : 0 < r.rows → get_or r.senders 0 false ≡ false
-  pub parents : AtMost (most_rows - 1) r.parents
-  pub shares : AtMost whole r.shares
-  pub bytes : AtMost most_finished r.bytes
-  pub past : Past r.rows r.parents r.bytes r.since r.parent_since
+  pub few : r.rows_count ≤ most_rows
+  pub root : 0 < r.rows_count → get_or r.senders 0 false ≡ false
+  pub parents : AtMost (most_rows - 1) r.tree.parents
+  pub shares : AtMost whole r.tree.shares
+  pub bytes : AtMost most_finished r.counts.bytes
+  pub past : Past r.rows_count r.tree.parents r.counts
 
 -- the rows in use are told of, the words after them stay
 pub record Written (live : Live) (report : List ℕ) (lags : List ℤ) (report' : List ℕ) (lags' : List ℤ) : Type 0 where

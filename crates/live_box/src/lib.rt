@@ -1,7 +1,6 @@
 // The calls of a live box, over words that the caller lends and keeps: a fresh state, one event, and the report.
 #![tactic(auto)]
 
-mod answers;
 mod making;
 mod meeting;
 mod telling;

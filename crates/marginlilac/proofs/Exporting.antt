@@ -1,7 +1,7 @@
 -- The whole run on bytes, by what its tests found.
 -- Assumes nothing.
 use Prim.Native.Nat.{◌/◌}
-use mathlib.Core.Path.{◌≡◌, ◌∙◌, sym}
+use mathlib.Core.Path.{◌≡◌}
 use mathlib.Core.Logic.{◌≢◌}
 use lib.ListN.{length}
 use borrow.Author.Tests.{eq-eqb, ne_eqb}
@@ -10,8 +10,9 @@ use Rattle.input.specs.Refusals.{Room}
 use Rattle.input.specs.Lent.{room_with}
 use Rattle.rules.specs.Refused.{refused}
 use Rattle.rules.specs.Outcome.{room_of, outcome}
-use Rattle.checks.specs.Counted.{SlicesOf, lengths_refused, ChecksLengths}
-use Rattle.checks.proofs.Whole.{by_lengths}
+use Rattle.tables.specs.Judged.{Refuses}
+use Rattle.checks.specs.Counted.{SlicesOf, lengths_refused}
+use Rattle.checks.proofs.Whole.{stops_lengths}
 use Rattle.octets.proofs.Laws.{length_words, length_signed}
 use Rattle.marginlilac.specs.Exported.{LentBytes, spare_of, whole, words_lent, bytes_left, untouched, exported}
 
@@ -51,9 +52,12 @@ module _ (lent : LentBytes) where
   room_is = rw (length_words 4 lent.order, length_words 8 lent.report, length_signed lent.lags, length_words 4 lent.working)
 
   -- what refuses the lengths
-  module _ (unfit : Refusal) (checked : ChecksLengths (words_lent lent).table (words_lent lent).events room unfit) where
-    pub lengths_are : unfit ≡ lengths_refused (words_lent lent).table (words_lent lent).events (room_of (words_lent lent))
-    lengths_are = rw room_is at checked
+  abbrev lengths_in : Room → Refusal
+  lengths_in room = lengths_refused (words_lent lent).table (words_lent lent).events room
 
-    pub unfit_is : unfit.number ≢ 0 → unfit ≡ refused (words_lent lent).table (words_lent lent).events (room_of (words_lent lent))
-    unfit_is some = lengths_are ∙ sym (by_lengths (words_lent lent).table (words_lent lent).events (room_of (words_lent lent)) (rw lengths_are at some))
+  pub lengths_fine : (lengths_in room).number ≡ 0 → (lengths_in (room_of (words_lent lent))).number ≡ 0
+  lengths_fine none = rw room_is at none
+
+  pub unfit_is : (r : Refusal) → Refuses (lengths_in room) r
+      → Refuses (refused (words_lent lent).table (words_lent lent).events (room_of (words_lent lent))) r
+  unfit_is r unfit = stops_lengths (words_lent lent).table (words_lent lent).events (room_of (words_lent lent)) r (rw room_is at unfit)

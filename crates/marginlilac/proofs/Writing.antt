@@ -22,10 +22,12 @@ use Rattle.rules.proofs.Results.{report_length, lags_length}
 use Rattle.laws.proofs.Tree.Trees.{tree_rows, first_none}
 use Rattle.laws.proofs.Outcome.Results.{over_first, accepted_done, not_refused, done_left}
 use Rattle.tables.proofs.Firsts.{given_plain}
+use Rattle.std.specs.Prelude.{Err}
+use Rattle.tables.specs.Judged.{Refuses}
 use Rattle.checks.specs.Counted.{lengths_refused}
 use Rattle.checks.proofs.Whole.{whole_sized, whole_listed}
 use Rattle.events.proofs.Sending.{order_most}
-use Rattle.engine.specs.Run.{left_of}
+use Rattle.engine.specs.Run.{left_of, answer_of}
 use Rattle.engine.proofs.Accepting.{Roomy, roomy}
 use Rattle.octets.specs.Octets.{bytes_of, signed_bytes_of}
 use Rattle.octets.proofs.Laws.{length_words, length_signed, written_read, signed_written_read, over_bytes, over_signed, zero_bytes}
@@ -81,12 +83,10 @@ module _ (lent : LentBytes) (none_spare : spare_of lent ≡ 0) (bytes : Bytes le
   working_back = written_read 4 lent.working bytes.working (omega arith) (omega arith)
 
   -- of a refused input the bytes are as they were
-  pub refused_bytes : (r : Refusal) → r ≡ refusal (words_lent lent) → r.number ≢ 0
-      → left_bytes r.number lent.order lent.report lent.lags lent.working
-      (answer_bytes (record { number = r.number; place = r.place; second = r.second; count = 0 }))
-      ≡ bytes_left (outcome (words_lent lent))
+  pub refused_bytes : (r : Refusal) → Refuses (refusal (words_lent lent)) r
+      → left_bytes r.number lent.order lent.report lent.lags lent.working (answer_bytes (answer_of (Err r))) ≡ bytes_left (outcome (words_lent lent))
   unfolding bytes_left refusing
-  refused_bytes r is some = rw (refuses (words_lent lent) (rw is at some), order_back, report_back, lags_back, working_back, is)
+  refused_bytes r judged = rw (refuses (words_lent lent) judged.0, order_back, report_back, lags_back, working_back, judged.1)
 
 -- ── the arrays ──
 
@@ -160,7 +160,7 @@ module _ (lent : LentBytes) (sized : Sized lent) where
         let left = left_of r order' report' lags' working' in
         let refuse : (refusal arrays).number ≢ 0 = λ none. some (accepted_done arrays left ran none) in
         let answer = ap (λ (o : Outcome). o.answer) (ran ∙ refuses arrays refuse) in
-        rw answer (refused_bytes lent sized.none_spare sized.bytes (refusal arrays) same_refusal refuse)
+        rw answer (refused_bytes lent sized.none_spare sized.bytes (refusal arrays) (rw (← same_refusal) refuse, same_refusal))
 
     module _ (done : r.number ≡ 0) where
       passed : (refusal (words_lent lent)).number ≡ 0

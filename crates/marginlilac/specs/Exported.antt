@@ -70,8 +70,11 @@ words_lent lent =
     (words_of 4 lent.lengths) (words_of 4 lent.order) (words_of 8 lent.report) (signed_words_of lent.lags) (words_of 4 lent.working)
 
 -- the answer's four words
+abbrev pub answer_words : Answer → List ℕ
+answer_words answer = answer.number ∷ answer.place ∷ answer.second ∷ answer.count ∷ []
+
 unfoldable pub answer_bytes : Answer → List ℕ
-answer_bytes answer = bytes_of 4 (answer.number ∷ answer.place ∷ answer.second ∷ answer.count ∷ [])
+answer_bytes answer = bytes_of 4 (answer_words answer)
 
 -- an outcome in bytes
 unfoldable pub bytes_left : Outcome → LeftBytes

@@ -3,7 +3,7 @@ use Rattle.std.specs.Prelude.{ℕ, ◌/◌, ◌≤◌, ◌≡◌, List, length}
 use Rattle.input.specs.Limits.{most_rows, most_events}
 use Rattle.rules.specs.Outcome.{room_of}
 use Rattle.checks.specs.Counted.{lengths_refused}
-use Rattle.octets.specs.Octets.{All-below}
+use Rattle.octets.specs.Octets.{AllBelow}
 use Rattle.marginlilac.specs.Exported.{LentBytes, spare_of, words_lent}
 
 -- the arrays have room for the words of these bytes
@@ -16,10 +16,10 @@ pub record Held (identifiers parents shares classes lengths : List ℕ) : Type 0
 
 -- the slices that are written hold bytes
 pub record Bytes (lent : LentBytes) : Type 0 where
-  pub order : All-below 256 lent.order
-  pub report : All-below 256 lent.report
-  pub lags : All-below 256 lent.lags
-  pub working : All-below 256 lent.working
+  pub order : AllBelow 256 lent.order
+  pub report : AllBelow 256 lent.report
+  pub lags : AllBelow 256 lent.lags
+  pub working : AllBelow 256 lent.working
 
 -- bytes that are whole words, and no refusal of their lengths
 pub record Sized (lent : LentBytes) : Type 0 where

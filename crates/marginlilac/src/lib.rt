@@ -2,16 +2,19 @@
 // word, and eight in the report and the lags.
 #![tactic(auto)]
 
-ghost use Rattle.std.specs.Prelude.{◌≡◌};
+ghost use Rattle.std.specs.Prelude.{◌≡◌, ◌≢◌, IfErr};
 ghost use Rattle.std.proofs.Math.ListN as lists;
 ghost use Rattle.rules.specs.Outcome.{Ran, outcome};
-ghost use Rattle.engine.specs.Run.{lent_of, left_of};
+ghost use Rattle.engine.specs.Run.{lent_of, left_of, answer_of};
 ghost use Rattle.octets.specs.Octets.{words_of};
-ghost use Rattle.marginlilac.specs.Exported.{Exports, lent_bytes, left_bytes, spare, words_lent, bytes_left, answer_bytes};
+ghost use Rattle.marginlilac.specs.Exported.{Exports, lent_bytes, left_bytes, spare, words_lent, bytes_left, answer_words, answer_bytes};
 ghost use Rattle.marginlilac.specs.Held.{Held, Sized};
 
-use choosing::Way;
-use input::{Answer, MOST_EVENTS, MOST_ROWS, REPORT_WORDS};
+use checks::ResultRoom;
+use choosing::Finding;
+use heaps::Heaps;
+use input::{MOST_EVENTS, MOST_ROWS, REPORT_WORDS, Refusal};
+use looking::Looking;
 
 // Bytes that make no whole word, in slices of so many bytes together.
 fn spare(
@@ -33,17 +36,27 @@ fn spare(
 }
 
 // The answer's four words.
-fn write_answer(answer: &mut [u8], r: Answer)
-    requires { lists.length answer.old ≡ 16 }
-    ensures { answer.new ≡ answer_bytes r }
+fn answer_words(done: Result<u32, Refusal>) -> [u32; 4]
+    ensures { result ≡ answer_words (answer_of done) }
 {
-    let words = [r.number, r.place, r.second, r.count];
-    octets::write_words(&words, 4, answer);
+    match done {
+        Ok(sent) => [0, 0, 0, sent],
+        Err(refusal) => [refusal.number, refusal.place, refusal.second, 0],
+    }
+}
+
+// Writes the answer; its number.
+fn write_answer(answer: &mut [u8], done: Result<u32, Refusal>) -> u32
+    requires { lists.length answer.old ≡ 16 }
+    ensures { (answer.new ≡ answer_bytes (answer_of done)) × (result ≡ (answer_of done).number) }
+{
+    let words = answer_words(done);
+    octets::write_words(&words, answer);
+    words[0]
 }
 
 // The run on the words of these bytes, which the arrays have room for.
-fn run_read(
-    way: Way,
+fn run_read<F: Finding>(
     identifiers: &[u8],
     parents: &[u8],
     shares: &[u8],
@@ -53,13 +66,14 @@ fn run_read(
     report: &mut [u64],
     lags: &mut [i64],
     working: &mut [u32],
-) -> Answer
+) -> Result<u32, Refusal>
     requires { Held identifiers.now parents.now shares.now classes.now lengths.now }
-    ensures { Ran
+    ensures numbered { IfErr result (λ refusal. refusal.number ≢ 0) }
+    ensures ran { Ran
         (lent_of (words_of 4 identifiers.now) (words_of 4 parents.now) (words_of 4 shares.now)
         (words_of 4 classes.now) (words_of 4 lengths.now)
         order.old report.old lags.old working.old)
-        (left_of result order.new report.new lags.new working.new) }
+        (left_of (answer_of result) order.new report.new lags.new working.new) }
 {
     let mut row_identifiers = [0u32; MOST_ROWS];
     let mut row_parents = [0u32; MOST_ROWS];
@@ -71,8 +85,7 @@ fn run_read(
     octets::read_words(shares, &mut row_shares);
     octets::read_words(classes, &mut event_classes);
     octets::read_words(lengths, &mut event_lengths);
-    engine::run(
-        way,
+    engine::run::<F>(
         &row_identifiers[..identifiers.len() / 4],
         &row_parents[..parents.len() / 4],
         &row_shares[..shares.len() / 4],
@@ -86,8 +99,7 @@ fn run_read(
 }
 
 // The run on bytes that are whole words, of lengths that are not refused. Of a refused input the answer alone is written.
-fn run_written(
-    way: Way,
+fn run_written<F: Finding>(
     identifiers: &[u8],
     parents: &[u8],
     shares: &[u8],
@@ -110,8 +122,7 @@ fn run_written(
     let mut report_words = [0u64; REPORT_WORDS * MOST_ROWS];
     let mut lag_words = [0i64; MOST_ROWS];
     let mut links = [0u32; MOST_EVENTS];
-    let r = run_read(
-        way,
+    let done = run_read::<F>(
         identifiers,
         parents,
         shares,
@@ -122,21 +133,21 @@ fn run_written(
         &mut lag_words,
         &mut links,
     );
-    write_answer(answer, r);
-    if r.number != 0 {
-        return r.number;
-    }
+    let number = write_answer(answer, done);
+    let sent = match done {
+        Ok(sent) => sent,
+        Err(_) => return number,
+    };
     let rows = identifiers.len() / 4;
-    octets::write_words(&order_words, words::wide(r.count), order);
-    octets::write_longs(&report_words, REPORT_WORDS * rows, report);
-    octets::write_signed(&lag_words, rows, lags);
+    octets::write_words(&order_words[..words::wide(sent)], order);
+    octets::write_words(&report_words[..REPORT_WORDS * rows], report);
+    octets::write_words(&lag_words[..rows], lags);
     octets::clear(working, classes.len());
-    r.number
+    number
 }
 
 // The run on bytes: part words are refused before all else, with nothing written, and lengths before anything is read.
-fn run_bytes(
-    way: Way,
+fn run_bytes<F: Finding>(
     identifiers: &[u8],
     parents: &[u8],
     shares: &[u8],
@@ -170,31 +181,23 @@ fn run_bytes(
     if answer.len() != 16 {
         return 3;
     }
-    let unfit = checks::check_counts(
+    let room = ResultRoom {
+        order: order.len() / 4,
+        report: report.len() / 8,
+        lags: lags.len() / 8,
+        working: working.len() / 4,
+    };
+    if let Err(refusal) = checks::check_counts(
         identifiers.len() / 4,
         parents.len() / 4,
         shares.len() / 4,
         classes.len() / 4,
         lengths.len() / 4,
-        order.len() / 4,
-        report.len() / 8,
-        lags.len() / 8,
-        working.len() / 4,
-    );
-    if unfit.number != 0 {
-        write_answer(
-            answer,
-            Answer {
-                number: unfit.number,
-                place: unfit.place,
-                second: unfit.second,
-                count: 0,
-            },
-        );
-        return unfit.number;
+        room,
+    ) {
+        return write_answer(answer, Err(refusal));
     }
-    run_written(
-        way,
+    run_written::<F>(
         identifiers,
         parents,
         shares,
@@ -227,8 +230,7 @@ pub extern "C" fn marginlilac_run(
         order.old report.old lags.old working.old answer.old)
         (left_bytes result order.new report.new lags.new working.new answer.new) }
 {
-    run_bytes(
-        Way::Looking,
+    run_bytes::<Looking>(
         identifiers,
         parents,
         shares,
@@ -261,8 +263,7 @@ pub extern "C" fn marginlilac_run_heaps(
         order.old report.old lags.old working.old answer.old)
         (left_bytes result order.new report.new lags.new working.new answer.new) }
 {
-    run_bytes(
-        Way::Heaps,
+    run_bytes::<Heaps>(
         identifiers,
         parents,
         shares,

@@ -13,12 +13,13 @@ use Rattle.rules.specs.declared.Why.TheVariants.{Arrived}
 use Rattle.rules.specs.Steps.{arrives as goes_in}
 use Rattle.rules.specs.Steps.{new_head, up, arrival}
 use Rattle.laws.specs.Sound.{Sound}
-use Rattle.heaps.specs.Heaps.{Forest}
+use Rattle.std.specs.Prelude.{Option}
+use Rattle.arrays.specs.declared.CountArrays.{CountArrays}
+use Rattle.looking.specs.declared.Looking.{Looking}
 use Rattle.arrays.specs.Arrays.{has_head_of}
 use Rattle.looking.specs.Listed.{Listed}
 use Rattle.looking.proofs.Parts.{head_part}
-use Rattle.choosing.specs.declared.Way.TheVariants.{Looking}
-use Rattle.choosing.specs.Filed.{Filed}
+use Rattle.choosing.specs.Filed.{Filing, AllListed}
 use Rattle.choosing.specs.Sizes.{Leeway, most_charge}
 use Rattle.choosing.proofs.Ticks.{less_leeway}
 use Rattle.hierarchy.specs.Sizes.{most_climb}
@@ -28,31 +29,23 @@ use Rattle.counts.specs.Counts.{Counts}
 use Rattle.queues.specs.Words.{sent_word}
 use Rattle.queues.proofs.Words.{sent_arrived}
 use Rattle.steps.specs.Ready.{Ready}
-use Rattle.moving.specs.Arrays.{Arrays, Arrives, Done}
-use Rattle.moving.proofs.Sending.{Sends}
-
--- children that are listed are filed to be looked at, whatever the rows have
-pub listed_filed :
-    (tree : Tree) (class_of : ℕ → ℕ) (a : Rows) (aside : ℕ) (f : Forest) → Listed tree.rows tree.parents f.roots f.links.right
-    → Filed Looking tree class_of a aside f
-unfolding Filed
-listed_filed tree class_of a aside f listed = listed
+use Rattle.moving.specs.Arrays.{Arrays, Arrives, Done, went}
 
 -- the arrays are as ready for a step as the box
 pub ready_arrays :
-    (tree : Tree) (box : Box) (a : Rows) (bytes held since parent_since : List ℕ) → Arrays box a bytes held since parent_since
-    → Ready tree.parents tree.depths box.rows box.bytes box.held → Ready tree.parents tree.depths a bytes held
-ready_arrays tree box a bytes held since parent_since arrays ready =
+    (tree : Tree) (box : Box) (a : Rows) (c : CountArrays) → Arrays box a c
+    → Ready tree.parents tree.depths box.rows box.bytes box.held → Ready tree.parents tree.depths a c.bytes c.held
+ready_arrays tree box a c arrays ready =
     rw (← arrays.rows_are, ← arrays.counts_are.bytes, ← arrays.counts_are.held) ready
 
 module _
-    {tree : Tree} {place k size : ℕ} {box : Box} {a : Rows} {bytes held since parent_since : List ℕ}
-    (arrives : Arrives tree place k size box) (arrays : Arrays box a bytes held since parent_since) where
+    {tree : Tree} {place k size : ℕ} {box : Box} {a : Rows} {c : CountArrays}
+    (arrives : Arrives tree place k size box) (arrays : Arrays box a c) where
   sound : Sound tree
   sound = arrives.able.sound
 
-  pub ready : Ready tree.parents tree.depths a bytes held
-  ready = ready_arrays tree box a bytes held since parent_since arrays arrives.able.ready
+  pub ready : Ready tree.parents tree.depths a c.bytes c.held
+  ready = ready_arrays tree box a c arrays arrives.able.ready
 
   pub few_rows : k < most_rows
   few_rows = omega (arith, arrives.sender.inside, sound.few_rows)
@@ -95,10 +88,10 @@ module _
 
   -- the way up may begin there, whatever the rows have
   pub front_climbs :
-      (class_of : ℕ → ℕ) (b : Rows) (row : ℕ) (f : Forest) → row ≡ from → Listed tree.rows tree.parents f.roots f.links.right
-      → Climbs Looking tree class_of b row (depth tree row) f
-  front_climbs class_of b row f row_is listed =
-      record { sound = sound; inside = rw row_is from_inside; deep = refl; filed = listed_filed tree class_of b row f listed }
+      (class_of : ℕ → ℕ) (b : Rows) (row : ℕ) (looking : Looking) → row ≡ from → Listed tree.rows tree.parents looking.firsts looking.listed
+      → Climbs (AllListed looking) tree class_of b row (depth tree row)
+  front_climbs class_of b row looking row_is listed =
+      record { sound = sound; inside = rw row_is from_inside; deep = refl; filed = listed }
 
   front_enough : Leeway most_climb front
   unfolding front_rows
@@ -119,16 +112,13 @@ module _
   arrival_sent b rows = ap (λ (xs : List ℕ). box.order ++ xs) (sent_arrived box.rows _ ∙ rw (rows, arrays.rows_are))
 
   pub arrived :
-      (class_of : ℕ → ℕ) (before b : Rows) (row : ℕ) (f : Forest) (held' since' parent_since' : List ℕ) (count packet : ℕ) → row ≡ from → before ≡ front
-      → Settles Looking tree class_of (up (depth tree row) tree Arrived row before) b f
-      → Counts (arrival tree place k size box) bytes held' since' parent_since' → Sends (eqb (head a 0) 0) (head b 0) count packet
-      → Done box.order (arrival tree place k size box) count packet b bytes held' since' parent_since'
-  arrived class_of before b row f held' since' parent_since' count packet row_is before_is settles counts sends =
+      (Filed : Filing) (class_of : ℕ → ℕ) (before b : Rows) (row : ℕ) (c' : CountArrays) (sent : Option ℕ) → row ≡ from → before ≡ front
+      → Settles Filed tree class_of (up (depth tree row) tree Arrived row before) b
+      → Counts (arrival tree place k size box) c' → went sent ≡ sent_word (eqb (head a 0) 0) (head b 0)
+      → Done box.order (arrival tree place k size box) sent b c'
+  arrived Filed class_of before b row c' sent row_is before_is settles counts sends =
       let rows : (arrival tree place k size box).rows ≡ b = sym (settles.rows_are ∙ rw (row_is, before_is) up_arrival) in
       record {
         arrays = record { rows_are = rows; counts_are = counts };
-        on_line = sent_word (eqb (head a 0) 0) (head b 0);
-        order_is = arrival_sent b rows;
-        count_is = sends.0;
-        packet_is = sends.1;
+        order_is = arrival_sent b rows ∙ ap (λ (xs : List ℕ). box.order ++ xs) (sym sends);
       }

@@ -14,9 +14,11 @@ use Rattle.rules.specs.Steps.{up, leaves, renews, goes_on, departure}
 use Rattle.laws.specs.Sound.{Sound, Sender}
 use Rattle.laws.proofs.Path.DeparturePath.{leaves_idle}
 use Rattle.laws.proofs.Event.OneEvent.{line_sender}
-use Rattle.heaps.specs.Heaps.{Forest}
+use Rattle.std.specs.Prelude.{Option}
+use Rattle.arrays.specs.declared.CountArrays.{CountArrays}
+use Rattle.looking.specs.declared.Looking.{Looking}
 use Rattle.looking.specs.Listed.{Listed}
-use Rattle.choosing.specs.declared.Way.TheVariants.{Looking}
+use Rattle.choosing.specs.Filed.{Filing, AllListed}
 use Rattle.choosing.specs.Sizes.{Leeway, most_charge}
 use Rattle.hierarchy.specs.Sizes.{most_climb}
 use Rattle.hierarchy.specs.Climbing.{Climbs, Settles}
@@ -27,18 +29,17 @@ use Rattle.queues.specs.Words.{sent_word}
 use Rattle.queues.proofs.Words.{sent_finished}
 use Rattle.steps.specs.Ready.{Ready}
 use Rattle.steps.proofs.Leaving.{leaves_small}
-use Rattle.moving.specs.Arrays.{Arrays, Finishes, Done}
-use Rattle.moving.proofs.Sending.{Sends}
-use Rattle.moving.proofs.Arriving.{listed_filed, ready_arrays}
+use Rattle.moving.specs.Arrays.{Arrays, Finishes, Done, went}
+use Rattle.moving.proofs.Arriving.{ready_arrays}
 
 module _
-    {tree : Tree} {place next size : ℕ} {box : Box} {a : Rows} {bytes held since parent_since : List ℕ}
-    (finishes : Finishes tree place next size box) (arrays : Arrays box a bytes held since parent_since) where
+    {tree : Tree} {place next size : ℕ} {box : Box} {a : Rows} {c : CountArrays}
+    (finishes : Finishes tree place next size box) (arrays : Arrays box a c) where
   sound : Sound tree
   sound = finishes.able.sound
 
-  pub ready : Ready tree.parents tree.depths a bytes held
-  ready = ready_arrays tree box a bytes held since parent_since arrays finishes.able.ready
+  pub ready : Ready tree.parents tree.depths a c.bytes c.held
+  ready = ready_arrays tree box a c arrays finishes.able.ready
 
   line_sends : Sender tree (line_class box)
   line_sends = line_sender tree sound (λ (r : ℕ). most_bytes) place box finishes.able.kept finishes.busy
@@ -59,14 +60,14 @@ module _
 
   -- the way up may begin there, whatever the rows have
   pub onward_climbs :
-      (class_of : ℕ → ℕ) (b : Rows) (class : ℕ) (f : Forest) → class ≡ head_class a 0 → Listed tree.rows tree.parents f.roots f.links.right
-      → Climbs Looking tree class_of b class (depth tree class) f
-  onward_climbs class_of b class f is listed =
+      (class_of : ℕ → ℕ) (b : Rows) (class : ℕ) (looking : Looking) → class ≡ head_class a 0
+      → Listed tree.rows tree.parents looking.firsts looking.listed → Climbs (AllListed looking) tree class_of b class (depth tree class)
+  onward_climbs class_of b class looking is listed =
       record {
         sound = sound;
         inside = omega (arith, class_is, line_sends.inside);
         deep = refl;
-        filed = listed_filed tree class_of b class f listed;
+        filed = listed;
       }
 
   pub onward_leeway : (b : Rows) (class : ℕ) → b ≡ onward class → Leeway most_climb b
@@ -83,16 +84,12 @@ module _
       ap (λ (xs : List ℕ). box.order ++ xs) (sent_finished (leaves tree (line_class box) box.rows) _ none ∙ rw rows)
 
   pub finished :
-      (class_of : ℕ → ℕ) (before b : Rows) (class : ℕ) (f : Forest) (bytes' held' : List ℕ) (count packet : ℕ) → class ≡ head_class a 0 → before ≡ onward class
-      → Settles Looking tree class_of (up (depth tree class) tree Finished class before) b f
-      → Counts (departure tree box) bytes' held' since parent_since → Sends true (head b 0) count packet
-      → Done box.order (departure tree box) count packet b bytes' held' since parent_since
-  finished class_of before b class f bytes' held' count packet is before_is settles counts sends =
+      (Filed : Filing) (class_of : ℕ → ℕ) (before b : Rows) (class : ℕ) (c' : CountArrays) (sent : Option ℕ) → class ≡ head_class a 0
+      → before ≡ onward class → Settles Filed tree class_of (up (depth tree class) tree Finished class before) b
+      → Counts (departure tree box) c' → went sent ≡ sent_word true (head b 0) → Done box.order (departure tree box) sent b c'
+  finished Filed class_of before b class c' sent is before_is settles counts sends =
       let rows : (departure tree box).rows ≡ b = sym (settles.rows_are ∙ rw (before_is, is) up_departure) in
       record {
         arrays = record { rows_are = rows; counts_are = counts };
-        on_line = sent_word true (head b 0);
-        order_is = departure_sent b rows;
-        count_is = sends.0;
-        packet_is = sends.1;
+        order_is = departure_sent b rows ∙ ap (λ (xs : List ℕ). box.order ++ xs) (sym sends);
       }

@@ -1,7 +1,8 @@
 -- Arrays that hold a box, and a box that an event can come to.
-use Rattle.std.specs.Prelude.{ℕ, suc, ◌≤◌, ◌<◌, ◌^◌, ◌≡◌, ◌≢◌, List, ◌++◌, length, get_or, take}
+use Rattle.std.specs.Prelude.{ℕ, suc, ◌≤◌, ◌<◌, ◌^◌, ◌≡◌, ◌≢◌, List, [], ◌∷◌, ◌++◌, Option, None, Some, take}
 use Rattle.input.specs.Limits.{most_bytes}
 use Rattle.input.specs.Classes.{Tree}
+use Rattle.arrays.specs.declared.CountArrays.{CountArrays}
 use Rattle.rules.specs.Box.{Rows, Box, head, left}
 use Rattle.laws.specs.Sound.{Sound, Sender}
 use Rattle.laws.specs.Kept.{Kept}
@@ -10,9 +11,9 @@ use Rattle.counts.specs.Counts.{Counts}
 use Rattle.steps.specs.Ready.{Ready}
 
 -- the box's rows and counts are these
-pub record Arrays (box : Box) (a : Rows) (bytes held since parent_since : List ℕ) : Type 0 where
+pub record Arrays (box : Box) (a : Rows) (c : CountArrays) : Type 0 where
   pub rows_are : box.rows ≡ a
-  pub counts_are : Counts box bytes held since parent_since
+  pub counts_are : Counts box c
 
 -- a box that is well kept, small enough for a step, at this place of the events
 pub record Able (tree : Tree) (place : ℕ) (box : Box) : Type 0 where
@@ -35,10 +36,12 @@ pub record Finishes (tree : Tree) (place next length : ℕ) (box : Box) : Type 0
   pub few_bytes : length ≤ most_bytes
   pub next_is : take 1 (left box) ≡ next_of next length
 
--- the event is over: the arrays are those of the box after it, whose order went on by so many packets, the first of them this one
-pub record Done (before : List ℕ) (box : Box) (count packet : ℕ) (a : Rows) (bytes held since parent_since : List ℕ) : Type 0 where
-  pub arrays : Arrays box a bytes held since parent_since
-  pub on_line : List ℕ
-  pub order_is : box.order ≡ before ++ on_line
-  pub count_is : count ≡ length on_line
-  pub packet_is : packet ≡ get_or on_line 0 0
+-- the packets that went on the line, none or one
+abbrev pub went : Option ℕ → List ℕ
+went None = []
+went (Some packet) = packet ∷ []
+
+-- the event is over: the arrays are those of the box after it, whose order went on by what went on the line
+pub record Done (before : List ℕ) (box : Box) (sent : Option ℕ) (a : Rows) (c : CountArrays) : Type 0 where
+  pub arrays : Arrays box a c
+  pub order_is : box.order ≡ before ++ went sent

@@ -13,7 +13,7 @@ use mir.Syntax.{w64}
 use mir.Val.{SFits, to_z, of_z}
 use mir.ValLaws.{of_z_fits, of_z-to_z, to_z-of_z}
 use Rattle.rules.specs.Outcome.{over}
-use Rattle.octets.specs.Octets.{bytes_in, number_of, bytes_of, word_at, words_below, words_of, signed_bytes_of, signed_words_of, All-below}
+use Rattle.octets.specs.Octets.{bytes_in, number_of, bytes_of, word_at, words_below, words_of, signed_bytes_of, signed_words_of, AllBelow}
 
 -- ── one number ──
 
@@ -32,7 +32,7 @@ number_bytes (suc size) x small =
     omega arith
 
 -- what was read is written
-pub bytes_number : (bytes : List ℕ) → All-below 256 bytes → bytes_in (length bytes) (number_of bytes) ≡ bytes
+pub bytes_number : (bytes : List ℕ) → AllBelow 256 bytes → bytes_in (length bytes) (number_of bytes) ≡ bytes
 unfolding bytes_in number_of
 bytes_number [] small = refl
 bytes_number (b ∷ bs) small =
@@ -41,7 +41,7 @@ bytes_number (b ∷ bs) small =
     let high : (b + 256 * number_of bs) / 256 ≡ number_of bs = omega arith in
     rw (low, high, bytes_number bs (λ i. small (suc i)))
 
-number_small : (bytes : List ℕ) → All-below 256 bytes → number_of bytes < 256 ^ length bytes
+number_small : (bytes : List ℕ) → AllBelow 256 bytes → number_of bytes < 256 ^ length bytes
 unfolding number_of
 number_small [] small = omega arith
 number_small (b ∷ bs) small =
@@ -81,7 +81,7 @@ bytes_more size words word = bytes_append size words (word ∷ []) ∙ rw (appen
 
 -- what was written is read
 module _ (size : ℕ) where
-  read_at : (words : List ℕ) (i : ℕ) → All-below (256 ^ size) words → i < length words → word_at size (bytes_of size words) i ≡ get_or words i 0
+  read_at : (words : List ℕ) (i : ℕ) → AllBelow (256 ^ size) words → i < length words → word_at size (bytes_of size words) i ≡ get_or words i 0
   unfolding bytes_of word_at
   read_at [] i small inside = absurd (omega arith)
   read_at (w ∷ ws) zero small inside =
@@ -91,24 +91,24 @@ module _ (size : ℕ) where
       let next : size * suc i ≡ length (bytes_in size w) + size * i = omega (arith, mul-suc size i, length_in size w) in
       rw (next, drop-append-add) (read_at ws i (λ j. small (suc j)) (omega arith))
 
-  read_below : (words : List ℕ) (n : ℕ) → All-below (256 ^ size) words → n ≤ length words → words_below size (bytes_of size words) n ≡ take n words
+  read_below : (words : List ℕ) (n : ℕ) → AllBelow (256 ^ size) words → n ≤ length words → words_below size (bytes_of size words) n ≡ take n words
   unfolding words_below
   read_below words zero small inside = refl
   read_below words (suc n) small inside =
       rw (read_below words n small (omega arith), read_at words n small (omega arith)) (sym (take-suc words n 0 (omega arith)))
 
-  pub read_written : (words : List ℕ) → 0 < size → All-below (256 ^ size) words → words_of size (bytes_of size words) ≡ words
+  pub read_written : (words : List ℕ) → 0 < size → AllBelow (256 ^ size) words → words_of size (bytes_of size words) ≡ words
   unfolding words_of
   read_written words some small =
       let all : length (bytes_of size words) / size ≡ length words = rw (length_bytes size words) (mul-div_right (length words) some) in
       rw all (read_below words (length words) small (omega arith) ∙ take_all (length words) words (omega arith))
 
 -- what was read is written
-module _ (size : ℕ) (bytes : List ℕ) (small : All-below 256 bytes) where
+module _ (size : ℕ) (bytes : List ℕ) (small : AllBelow 256 bytes) where
   abbrev part : ℕ → List ℕ
   part i = take size (drop (size * i) bytes)
 
-  part_small : (i : ℕ) → All-below 256 (part i)
+  part_small : (i : ℕ) → AllBelow 256 (part i)
   part_small i j = go (dec_lt j size)
     where
       go : Dec (j < size) → get_or (part i) j 0 < 256
@@ -184,7 +184,7 @@ unfolding signed_words_of
 length_signed bytes = length_map (to_z w64) (words_of 8 bytes) ∙ length_words 8 bytes
 
 -- the bits of signed words that were read are the words
-bits_below : (bytes : List ℕ) (n : ℕ) → All-below 256 bytes → 8 * n ≤ length bytes
+bits_below : (bytes : List ℕ) (n : ℕ) → AllBelow 256 bytes → 8 * n ≤ length bytes
     → map (of_z w64) (map (to_z w64) (words_below 8 bytes n)) ≡ words_below 8 bytes n
 unfolding words_below
 bits_below bytes zero small inside = refl
@@ -194,7 +194,7 @@ bits_below bytes (suc n) small inside =
     rw (map-append, map-append, bits_below bytes n small (omega arith), same)
 
 -- what was read is written
-pub signed_written_read : (bytes : List ℕ) → All-below 256 bytes → length bytes % 8 ≡ 0 → signed_bytes_of (signed_words_of bytes) ≡ bytes
+pub signed_written_read : (bytes : List ℕ) → AllBelow 256 bytes → length bytes % 8 ≡ 0 → signed_bytes_of (signed_words_of bytes) ≡ bytes
 unfolding signed_bytes_of signed_words_of words_of
 signed_written_read bytes small whole =
     rw (bits_below bytes (length bytes / 8) small (omega arith)) (written_read 8 bytes small (omega arith) whole)

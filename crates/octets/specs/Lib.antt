@@ -1,2 +1,3 @@
 -- Words as bytes.
 pub mod Octets
+pub mod Numbers

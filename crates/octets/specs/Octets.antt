@@ -39,5 +39,5 @@ unfoldable pub signed_words_of : List ℕ → List ℤ
 signed_words_of bytes = map (to_z w64) (words_of 8 bytes)
 
 -- every entry is below this
-abbrev pub All-below : ℕ → List ℕ → Type 0
-All-below limit list = (i : ℕ) → get_or list i 0 < limit
+abbrev pub AllBelow : ℕ → List ℕ → Type 0
+AllBelow limit list = (i : ℕ) → get_or list i 0 < limit

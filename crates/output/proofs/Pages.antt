@@ -25,11 +25,11 @@ then first a b one two = two ∙ ap (λ (page : Page). with_text page b) one ∙
 
 -- ── one byte ──
 
-pub byte_put : (bytes : List ℕ) (used byte : ℕ) → used < length bytes → Puts (byte ∷ []) bytes used (set bytes used byte) (used + 1)
+pub byte_put : (bytes : List ℕ) (used byte : ℕ) → used < length bytes → Puts (byte ∷ []) (page_of bytes used) (page_of (set bytes used byte) (used + 1))
 unfolding with_text with_byte
 byte_put bytes used byte room = rw (lt-ltb used (length bytes) room, add-one)
 
-pub byte_left : (bytes : List ℕ) (used byte : ℕ) → length bytes ≤ used → Puts (byte ∷ []) bytes used bytes used
+pub byte_left : (bytes : List ℕ) (used byte : ℕ) → length bytes ≤ used → Puts (byte ∷ []) (page_of bytes used) (page_of bytes used)
 unfolding with_text with_byte
 byte_left bytes used byte full = rw (le-ltb used (length bytes) full)
 

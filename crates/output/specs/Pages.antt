@@ -1,4 +1,4 @@
--- A page: lent bytes, and how many of them are used. What is put on it comes after what stands there, as far as it has room.
+-- A page: its bytes, and how many of them are used. What is put on it comes after what stands there, as far as it has room.
 use Rattle.std.specs.Prelude.{ℕ, suc, ◌≡◌, cond, List, [], ◌∷◌, ltb, length, set}
 
 pub record Page : Type 0 where
@@ -17,6 +17,6 @@ unfoldable pub with_text : Page → List ℕ → Page
 with_text page [] = page
 with_text page (byte ∷ text) = with_text (with_byte page byte) text
 
--- what each routine states: of the bytes and how many were used, afterwards and before
-abbrev pub Puts : List ℕ → List ℕ → ℕ → List ℕ → ℕ → Type 0
-Puts text bytes used bytes' used' = page_of bytes' used' ≡ with_text (page_of bytes used) text
+-- what each routine states: of the page afterwards and before
+abbrev pub Puts : List ℕ → Page → Page → Type 0
+Puts text page page' = page' ≡ with_text page text

@@ -1,74 +1,104 @@
-// Text put on a page: a lent slice, and how many of its bytes are used. What finds no room is left out.
+// Text put on a page: bytes of a fixed number, and how many of them are used. What finds no room is left out.
 #![tactic(auto)]
 
 mod signed;
 
-ghost use Rattle.std.specs.Prelude.{[], ◌∷◌, ◌++◌};
-ghost use Rattle.output.specs.Pages.{Puts};
+ghost use Rattle.std.specs.Prelude.{◌≡◌, ◌≤◌, [], ◌∷◌, ◌++◌, length, take};
+ghost use Rattle.output.specs.Pages as pages;
+ghost use Rattle.output.specs.Pages.{page_of, Puts};
 ghost use Rattle.output.specs.Numbers.{decimal, signed};
 
 use signed::magnitude;
+use std::marker::Model;
 
-pub fn put_byte(page: &mut [u8], used: usize, byte: u8) -> usize
-    ensures { Puts (byte ∷ []) page.old used page.new result }
-{
-    if used < page.len() {
-        page[used] = byte;
-        return used + 1;
+#[derive(Drop)]
+pub struct Page<const N: usize> {
+    bytes: [u8; N],
+    used: usize,
+}
+
+impl<const N: usize> Model for Page<N> {
+    ghost Value = { pages.Page };
+
+    ghost view = { λ p. page_of p.bytes p.used };
+
+    ghost invariant = { λ p. p.used ≤ length p.bytes };
+}
+
+impl<const N: usize> Page<N> {
+    // Nothing on it. What its bytes are is not said: a proof that looks at them would count them all.
+    pub fn blank() -> Self
+        ensures unused { result.used ≡ 0 }
+        ensures size { length result.bytes ≡ N }
+    {
+        Page {
+            bytes: [0; N],
+            used: 0,
+        }
     }
-    used
-}
 
-pub fn put_text(page: &mut [u8], used: usize, text: &[u8]) -> usize
-    ensures { Puts text.now page.old used page.new result }
-{
-    let mut used = used;
-    let mut i = 0;
-    while i < text.len() {
-        used = put_byte(page, used, text[i]);
-        i += 1;
+    // What is put on it so far.
+    pub fn text(&self) -> &[u8]
+        ensures { result.now ≡ take self.now.used self.now.bytes }
+    {
+        &self.bytes[..self.used]
     }
-    used
-}
 
-pub fn put_number(page: &mut [u8], used: usize, n: u64) -> usize
-    ensures { Puts (decimal n) page.old used page.new result }
-{
-    if n < 10 {
-        return put_byte(page, used, 48 + n as u8);
+    pub fn put_byte(&mut self, byte: u8)
+        ensures { Puts (byte ∷ []) self.old self.new }
+    {
+        if self.used < N {
+            self.bytes[self.used] = byte;
+            self.used += 1;
+        }
     }
-    let used = put_number(page, used, n / 10);
-    put_byte(page, used, 48 + (n % 10) as u8)
-}
 
-pub fn put_word(page: &mut [u8], used: usize, n: u32) -> usize
-    ensures { Puts (decimal n) page.old used page.new result }
-{
-    put_number(page, used, n as u64)
-}
-
-pub fn put_signed(page: &mut [u8], used: usize, n: i64) -> usize
-    ensures { Puts (signed n) page.old used page.new result }
-{
-    if n < 0 {
-        let used = put_byte(page, used, 45);
-        return put_number(page, used, magnitude(n));
+    pub fn put_text(&mut self, text: &[u8])
+        ensures { Puts text.now self.old self.new }
+    {
+        for &byte in text {
+            self.put_byte(byte);
+        }
     }
-    put_number(page, used, magnitude(n))
-}
 
-// A number, and the byte after it.
-pub fn put_then(page: &mut [u8], used: usize, n: u32, byte: u8) -> usize
-    ensures { Puts (decimal n ++ byte ∷ []) page.old used page.new result }
-{
-    let used = put_word(page, used, n);
-    put_byte(page, used, byte)
-}
+    // Digit by digit: `write!` states what it writes only where it does not fail.
+    pub fn put_number(&mut self, n: u64)
+        ensures { Puts (decimal n) self.old self.new }
+    {
+        if n >= 10 {
+            self.put_number(n / 10);
+        }
+        self.put_byte(48 + (n % 10) as u8);
+    }
 
-// A text, and the number after it.
-pub fn put_named(page: &mut [u8], used: usize, name: &[u8], n: u32) -> usize
-    ensures { Puts (name.now ++ decimal n) page.old used page.new result }
-{
-    let used = put_text(page, used, name);
-    put_word(page, used, n)
+    pub fn put_word(&mut self, n: u32)
+        ensures { Puts (decimal n) self.old self.new }
+    {
+        self.put_number(n as u64);
+    }
+
+    pub fn put_signed(&mut self, n: i64)
+        ensures { Puts (signed n) self.old self.new }
+    {
+        if n < 0 {
+            self.put_byte(45);
+        }
+        self.put_number(magnitude(n));
+    }
+
+    // A number, and the byte after it.
+    pub fn put_then(&mut self, n: u32, after: u8)
+        ensures { Puts (decimal n ++ after ∷ []) self.old self.new }
+    {
+        self.put_word(n);
+        self.put_byte(after);
+    }
+
+    // A text, and the number after it.
+    pub fn put_named(&mut self, name: &[u8], number: u32)
+        ensures { Puts (name.now ++ decimal number) self.old self.new }
+    {
+        self.put_text(name);
+        self.put_word(number);
+    }
 }

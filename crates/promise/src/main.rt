@@ -7,27 +7,25 @@
 mod asked;
 mod printing;
 
-use asked::Asked;
-use files::{
-    STDERR_FILENO, Status, argument_count, begin_refusal, complain, end_with, first, hand_over,
-    load_table, print_answer,
-};
+use asked::Numbers;
+use files::{Stopped, Table, argument_count, begin_refusal, complain, print_answer, say};
 use input::{Answer, MOST_EVENTS, Refusal};
-use sentences::{HELD_ROWS, SENTENCE_BYTES};
+use output::Page;
+use printing::Sheet;
+use sentences::{Columns, SENTENCE_BYTES, table_sentence};
 use text::Field;
 
 fn main(rt: HostRuntime) {
-    end_with(called(&rt));
+    files::end_with(called(&rt));
 }
 
 // Looks at the call and goes on.
-fn called(rt: &HostRuntime) -> Status {
+fn called(rt: &HostRuntime) -> Result<(), Stopped> {
     let count = argument_count(rt);
-    if count < 3 {
-        return usage();
-    }
-    if 5 < count {
-        return usage();
+    if count < 3 || 5 < count {
+        return Err(complain(
+            b"cannot read: give a class table and the largest packet, promise TABLE LARGEST [OWN [PACKETS]]\n",
+        ));
     }
     let largest = argument(rt, 2);
     let own = if 3 < count { argument(rt, 3) } else { largest };
@@ -36,22 +34,10 @@ fn called(rt: &HostRuntime) -> Status {
     } else {
         Field::Number(MOST_EVENTS as u32)
     };
-    let asked = asked::from_fields(largest, own, packets);
-    if let Asked::Numbers {
-        largest,
-        own,
-        packets,
-    } = asked
-    {
-        return with_numbers(rt, largest, own, packets);
+    match asked::from_fields(largest, own, packets) {
+        Ok(numbers) => with_numbers(rt, numbers),
+        Err(fault) => Err(fault.complain()),
     }
-    asked::complain(asked)
-}
-
-fn usage() -> Status {
-    complain(
-        b"cannot read: give a class table and the largest packet, promise TABLE LARGEST [OWN [PACKETS]]\n",
-    )
 }
 
 // An argument as a number. The longest that the system passes has 131,071 bytes.
@@ -61,91 +47,42 @@ fn argument(rt: &HostRuntime, place: usize) -> Field {
     text::number(&word[..length])
 }
 
-// Reads the table and goes on.
-fn with_numbers(rt: &HostRuntime, largest: u32, own: u32, packets: u32) -> Status {
-    let mut identifiers = [0u32; HELD_ROWS];
-    let mut parents = [0u32; HELD_ROWS];
-    let mut shares = [0u32; HELD_ROWS];
-    let table = load_table(rt, 1, &mut identifiers, &mut parents, &mut shares);
-    let status = table.status;
-    if let Status::Done = status {
-        return with_table(
-            rt,
-            largest,
-            own,
-            packets,
-            table.rows,
-            first(&identifiers, table.rows),
-            first(&parents, table.rows),
-            first(&shares, table.rows),
-        );
-    }
-    status
-}
-
-// Checks the table, and prints the sheet or why there is none. The count of rows is that of the file, of which the slices may have
-// less.
-fn with_table<'a>(
-    rt: &HostRuntime,
-    largest: u32,
-    own: u32,
-    packets: u32,
-    rows: u64,
-    identifiers: &'a [u32],
-    parents: &'a [u32],
-    shares: &'a [u32],
-) -> Status {
-    let reading = tables::read_table(identifiers, parents, shares);
-    let refusal = reading.refusal;
-    if refusal.number != 0 {
-        return refused(rt, refusal, rows, identifiers, parents, shares);
-    }
-    let above = reading.parents;
-    let depths = reading.depths;
-    let parts = reading.shares;
-    let senders = reading.senders;
-    printing::print(
-        rt,
-        largest,
-        own,
-        packets,
+// Reads the table, checks it, and prints the sheet or why there is none.
+fn with_numbers(rt: &HostRuntime, asked: Numbers) -> Result<(), Stopped> {
+    let table = Table::load(rt, 1)?;
+    let columns = table.columns();
+    let Columns {
         identifiers,
-        &above,
-        &depths,
-        &parts,
-        &senders,
-    )
+        parents,
+        shares,
+    } = columns;
+    let reading = tables::read_table(identifiers, parents, shares);
+    if reading.refusal.number != 0 {
+        return refused(rt, reading.refusal, table.rows, columns);
+    }
+    let sheet = Sheet {
+        asked,
+        identifiers,
+        parents: &reading.parents,
+        depths: &reading.depths,
+        shares: &reading.shares,
+    };
+    sheet.print(rt, &reading.senders)
 }
 
-// The answer of a run with this table and, once that is written, the refusal as a sentence to standard error.
-fn refused<'a>(
-    rt: &HostRuntime,
-    refusal: Refusal,
-    rows: u64,
-    identifiers: &'a [u32],
-    parents: &'a [u32],
-    shares: &'a [u32],
-) -> Status {
+// The answer of a run with this table and, once that is written, the refusal as a sentence to standard error. The count of rows is that
+// of the file, of which the columns may have less.
+fn refused(rt: &HostRuntime, refusal: Refusal, rows: u64, table: Columns) -> Result<(), Stopped> {
     let answer = Answer {
         number: refusal.number,
         place: refusal.place,
         second: refusal.second,
         count: 0,
     };
-    if !print_answer(rt, answer) {
-        return Status::Failed;
-    }
-    let mut page = [0u8; SENTENCE_BYTES];
-    let used = begin_refusal(rt, &mut page, answer.number, 1);
-    let used = sentences::table_sentence(
-        &mut page,
-        used,
-        answer,
-        rows,
-        identifiers,
-        parents,
-        shares,
-    );
-    hand_over(STDERR_FILENO, &page, used);
-    Status::Refused
+    print_answer(rt, answer)?;
+    let mut page: Page<SENTENCE_BYTES> = Page::blank();
+    begin_refusal(rt, &mut page, answer.number, 1);
+    table_sentence(&mut page, answer, rows, table);
+    say(&page);
+    Err(Stopped::Refused)
 }

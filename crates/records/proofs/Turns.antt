@@ -2,15 +2,12 @@
 -- Assumes nothing.
 use Prim.Native.Nat.{ℕ, zero, suc, ◌+◌, ◌≤◌, ◌<◌, ◌^◌}
 use mathlib.Core.Path.{◌≡◌, refl, ◌∙◌, ap}
-use mathlib.Core.Bool.{cond}
 use mathlib.Core.List.{List, [], ◌∷◌}
 use native.Mathlib.Decide.{ℕ_discrete}
 use native.Mathlib.Numerals.{add-one}
 use native.Mathlib.Omega.{arith}
-use lib.Dec.{leb}
 use lib.ListN.{length, get_or, set, length-append}
 use lib.Seq.{get_or-set_same, get_or-set_other}
-use borrow.Author.Tests.{le-leb}
 use Rattle.rules.specs.Outcome.{over}
 use Rattle.rules.proofs.Over.{over_more}
 use Rattle.pcap.specs.declared.Layout.{Layout}
@@ -47,14 +44,12 @@ next_more capture layout k at last bytes stamped next whole includes stamps =
 
 -- ── looking for the byte at which record k begins ──
 
-pub goes_on : (capture : List ℕ) (k passed at end : ℕ) → at ≡ offset capture passed → passed < k → offset capture k ≤ length capture
-    → end ≡ cond (leb (at + record_bytes + included_at capture at) (length capture)) (at + record_bytes + included_at capture at) 0
-    → end ≡ offset capture (suc passed)
-goes_on capture k passed at end begins before inside found =
-    let after = at + record_bytes + included_at capture at in
-    let next : after ≡ offset capture (suc passed) = rw (offset_next capture passed, ← begins) refl in
-    let grows = offset_grows capture (suc passed) k (omega arith) in
-    (rw (le-leb after (length capture) (omega arith)) at found) ∙ next
+pub goes_on : (capture : List ℕ) (k passed at : ℕ) → at ≡ offset capture passed → passed < k → offset capture k ≤ length capture
+    → (at + record_bytes + included_at capture at ≤ length capture) × (at + record_bytes + included_at capture at ≡ offset capture (passed + 1))
+goes_on capture k passed at begins before inside =
+    let next = begins_next capture passed at (included_at capture at) begins refl in
+    let grows = offset_grows capture (passed + 1) k (omega arith) in
+    (omega arith, next)
 
 -- ── reading ──
 

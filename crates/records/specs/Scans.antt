@@ -1,29 +1,22 @@
 -- What the check of a capture answers, and what is known before each record.
-use Rattle.std.specs.Prelude.{ℕ, zero, suc, ◌≤◌, ◌≡◌, false, cond, List, eqb, length}
+use Rattle.std.specs.Prelude.{ℕ, zero, suc, ◌≤◌, ◌≡◌, List, length, Result}
 use Rattle.input.specs.declared.Refusal.{Refusal}
 use Rattle.pcap.specs.declared.Layout.{Layout}
 use Rattle.pcap.specs.Headers.{layout_of}
 use Rattle.pcap.specs.Records.{offset, record_count, stamp}
 use Rattle.pcap.specs.Faults.{capture_refused}
 use Rattle.records.specs.declared.Scan.{Scan}
+use Rattle.records.specs.Judged.{Judged}
 
 -- ── the answer ──
 
-unfoldable pub accepting : List ℕ → Refusal → Scan
-accepting capture refusal = record { refusal = refusal; layout = layout_of capture; records = record_count capture }
+-- what there is to find
+abbrev pub scan_of : List ℕ → Scan
+scan_of capture = record { layout = layout_of capture; records = record_count capture }
 
--- nothing else where something is refused
-unfoldable pub refusing : Refusal → Scan
-refusing refusal = record { refusal = refusal; layout = record { big = false; nano = false }; records = 0 }
-
-unfoldable pub scan_of : List ℕ → Refusal → Scan
-scan_of capture refusal = cond (eqb refusal.number 0) (accepting capture refusal) (refusing refusal)
-
-unfoldable pub scanned : List ℕ → ℕ → Scan
-scanned capture rate = scan_of capture (capture_refused capture rate)
-
-abbrev pub Scans : List ℕ → ℕ → Scan → Type 0
-Scans capture rate scan = scan ≡ scanned capture rate
+-- the first refusal, or what was found
+abbrev pub Scans : List ℕ → ℕ → Result Scan Refusal → Type 0
+Scans capture rate scan = Judged (capture_refused capture rate) (scan_of capture) scan
 
 -- ── before record k ──
 

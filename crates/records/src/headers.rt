@@ -3,6 +3,7 @@ ghost use Rattle.std.specs.Prelude.{◌≡◌, true, false, ◌||◌, ◌≤◌,
 ghost use Rattle.pcap.specs.Headers as headers;
 ghost use Rattle.pcap.specs.Headers.{header_bytes};
 ghost use Rattle.pcap.specs.Faults.{header_refused};
+ghost use Rattle.records.specs.Judged.{Judged};
 
 use crate::numbers::{half, word};
 use crate::{HEADER_BYTES, MAJOR_VERSION, MICRO_MAGIC, MINOR_VERSION, NANO_MAGIC, RAW_IP};
@@ -45,27 +46,27 @@ pub fn layout_of(capture: &[u8]) -> Layout
 }
 
 // 30 to 34.
-pub fn header_refused(capture: &[u8], rate: u32) -> Refusal
-    ensures { result ≡ header_refused capture.now rate }
+pub fn header_refused(capture: &[u8], rate: u32) -> Result<(), Refusal>
+    ensures { Judged (header_refused capture.now rate) tt result }
 {
     if rate == 0 {
-        return tables::refusal(30, 0, 0);
+        return Err(tables::refusal(30, 0, 0));
     }
     if capture.len() < HEADER_BYTES {
-        return tables::refusal(31, 0, 0);
+        return Err(tables::refusal(31, 0, 0));
     }
     if !any_magic(capture) {
-        return tables::refusal(32, 0, 0);
+        return Err(tables::refusal(32, 0, 0));
     }
     let layout = layout_of(capture);
     if half(capture, layout.big, 4) != MAJOR_VERSION {
-        return tables::refusal(33, 0, 0);
+        return Err(tables::refusal(33, 0, 0));
     }
     if half(capture, layout.big, 6) != MINOR_VERSION {
-        return tables::refusal(33, 0, 0);
+        return Err(tables::refusal(33, 0, 0));
     }
     if word(capture, layout.big, 20) != RAW_IP {
-        return tables::refusal(34, 0, 0);
+        return Err(tables::refusal(34, 0, 0));
     }
-    tables::none()
+    Ok(())
 }

@@ -11,7 +11,6 @@ mod scanning;
 
 pub use fields::{included, original, stamp};
 pub use headers::layout_of;
-use input::Refusal;
 pub use numbers::{half, word};
 pub use packets::{class_for, packet};
 use pcap::Layout;
@@ -42,11 +41,9 @@ pub const LEAST_HEADER: usize = 20;
 
 // ── what is answered ──
 
-// What the check of a capture answers: the first refusal, 30 to 38, and where there is none how the numbers are stored and how many
-// records there are.
+// How a capture that is not refused stores its numbers, and how many records there are.
 #[derive(Clone, Copy)]
 pub struct Scan {
-    pub refusal: Refusal,
     pub layout: Layout,
     pub records: usize,
 }

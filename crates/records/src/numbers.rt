@@ -2,21 +2,21 @@
 ghost use Rattle.std.specs.Prelude.{◌≡◌, ◌+◌, ◌≤◌, length};
 ghost use Rattle.pcap.specs.Headers.{word_at, half_at};
 
-use octets::joined;
-
 // The number of the four bytes from this one on.
 pub fn word(capture: &[u8], big: bool, at: usize) -> u32
     requires { at + 4 ≤ length capture.now }
     ensures { result ≡ word_at big capture.now at }
 {
-    let a = capture[at];
-    let b = capture[at + 1];
-    let c = capture[at + 2];
-    let d = capture[at + 3];
+    let bytes = [
+        capture[at],
+        capture[at + 1],
+        capture[at + 2],
+        capture[at + 3],
+    ];
     if big {
-        return joined(d, c, b, a);
+        return u32::from_be_bytes(bytes);
     }
-    joined(a, b, c, d)
+    u32::from_le_bytes(bytes)
 }
 
 // The number of the two bytes from this one on.
@@ -24,10 +24,9 @@ pub fn half(capture: &[u8], big: bool, at: usize) -> u32
     requires { at + 2 ≤ length capture.now }
     ensures { result ≡ half_at big capture.now at }
 {
-    let a = capture[at];
-    let b = capture[at + 1];
+    let bytes = [capture[at], capture[at + 1]];
     if big {
-        return joined(b, a, 0, 0);
+        return u16::from_be_bytes(bytes) as u32;
     }
-    joined(a, b, 0, 0)
+    u16::from_le_bytes(bytes) as u32
 }

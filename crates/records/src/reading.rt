@@ -1,5 +1,6 @@
 // The records of a capture that passed its check, as arrivals; and where a record begins.
-ghost use Rattle.std.specs.Prelude.{◌≡◌, cond, ◌+◌, ◌≤◌, ◌<◌, ◌^◌, leb, length, set};
+ghost use Rattle.std.specs.Prelude.{◌≡◌, ◌+◌, ◌≤◌, ◌<◌, ◌^◌, length, set, IfSome};
+ghost use Rattle.std.specs.Option.{SomeIff};
 ghost use Rattle.pcap.specs.Headers.{record_bytes, layout_of};
 ghost use Rattle.pcap.specs.Records.{field_at, included_at, offset, packet_at, stamp_at, code_point, class_for};
 ghost use Rattle.pcap.specs.Lists.{arrivals_with};
@@ -49,30 +50,28 @@ pub fn read(
         (arrivals_with stamps.new classes.new lengths.new) }
 {
     let mut at = HEADER_BYTES;
-    let mut k = 0;
-    while k < records {
+    for k in 0..records {
         read_record(capture, layout, sorting, at, k, stamps, classes, lengths);
         at = at + RECORD_BYTES + included(capture, layout, at);
-        k += 1;
     }
 }
 
-// The byte after the record that begins at this one; 0 where the capture ends before that.
-fn next(capture: &[u8], layout: Layout, at: usize) -> usize
+// The byte after the record that begins at this one; none where the capture ends before that.
+fn next(capture: &[u8], layout: Layout, at: usize) -> Option<usize>
     requires { at < 2 ^ 63 }
-    ensures { (result ≤ length capture.now) × (layout ≡ layout_of capture.now
-        → result ≡ cond (leb (at + record_bytes + included_at capture.now at) (length capture.now))
-        (at + record_bytes + included_at capture.now at) 0) }
+    ensures inside { IfSome result (λ end. end ≤ length capture.now) }
+    ensures record_end { layout ≡ layout_of capture.now
+        → SomeIff result (at + record_bytes + included_at capture.now at ≤ length capture.now) (at + record_bytes + included_at capture.now at) }
 {
     let start = at + RECORD_BYTES;
     if capture.len() < start {
-        return 0;
+        return None;
     }
     let bytes = included(capture, layout, at);
     if capture.len() - start < bytes {
-        return 0;
+        return None;
     }
-    start + bytes
+    Some(start + bytes)
 }
 
 // The byte at which record k begins; where the capture ends before it, the byte at which the record begins in which it ends.
@@ -81,14 +80,11 @@ pub fn offset_of(capture: &[u8], layout: Layout, k: usize) -> usize
         → result ≡ offset capture.now k }
 {
     let mut at = HEADER_BYTES;
-    let mut passed = 0;
-    while passed < k {
-        let end = next(capture, layout, at);
-        if end == 0 {
-            return at;
+    for _ in 0..k {
+        match next(capture, layout, at) {
+            Some(end) => at = end,
+            None => return at,
         }
-        at = end;
-        passed += 1;
     }
     at
 }

@@ -2,15 +2,14 @@
 // the lags; to standard error it says what cannot be read or written, or what a refusal names and how to mend it.
 #![tactic(auto)]
 
-ghost use Rattle.std.specs.Prelude.{◌≡◌, length};
-
-use choosing::Way;
 use files::{
-    NO_FILE, STDERR_FILENO, Status, argument_count, begin_refusal, complain, end_with, first,
-    hand_over, input_twice, load, load_table,
+    NO_FILE, Stopped, Table, argument_count, begin_refusal, complain, end_with, first, input_twice,
+    load, say,
 };
-use input::{Answer, MOST_EVENTS, REPORT_WORDS};
-use sentences::{HELD_ROWS, SENTENCE_BYTES};
+use heaps::Heaps;
+use input::{MOST_EVENTS, REPORT_WORDS, Refusal};
+use output::Page;
+use sentences::{Columns, HELD_ROWS, Lists, SENTENCE_BYTES};
 
 // One more than a run takes, so that it refuses a longer list.
 const HELD_EVENTS: usize = MOST_EVENTS + 1;
@@ -23,159 +22,90 @@ fn main(rt: HostRuntime) {
 }
 
 // Looks at the call and goes on.
-fn called(rt: &HostRuntime) -> Status {
+fn called(rt: &HostRuntime) -> Result<(), Stopped> {
     if argument_count(rt) != 3 {
-        return complain(
+        return Err(complain(
             b"cannot read: give a class table and an event list, replay TABLE EVENTS\n",
-        );
+        ));
     }
     if input_twice(rt) {
-        return files::twice();
+        return Err(files::twice());
     }
-    with_arguments(rt)
-}
-
-// Reads the table and goes on.
-fn with_arguments(rt: &HostRuntime) -> Status {
-    let mut identifiers = [0u32; HELD_ROWS];
-    let mut parents = [0u32; HELD_ROWS];
-    let mut shares = [0u32; HELD_ROWS];
-    let table = load_table(rt, 1, &mut identifiers, &mut parents, &mut shares);
-    let status = table.status;
-    if let Status::Done = status {
-        return with_table(
-            rt,
-            table.rows,
-            first(&identifiers, table.rows),
-            first(&parents, table.rows),
-            first(&shares, table.rows),
-        );
-    }
-    status
+    let table = Table::load(rt, 1)?;
+    with_table(rt, table.rows, table.columns())
 }
 
 // Reads the events and goes on.
-fn with_table<'a>(
-    rt: &HostRuntime,
-    rows: u64,
-    identifiers: &'a [u32],
-    parents: &'a [u32],
-    shares: &'a [u32],
-) -> Status {
+fn with_table(rt: &HostRuntime, rows: u64, table: Columns) -> Result<(), Stopped> {
     let mut classes = [0u32; HELD_EVENTS];
     let mut lengths = [0u32; HELD_EVENTS];
-    let events = load(rt, 2, &mut classes, &mut lengths);
-    let status = events.status;
-    if let Status::Done = status {
-        return replay(
-            rt,
-            rows,
-            events.rows,
-            identifiers,
-            parents,
-            shares,
-            first(&classes, events.rows),
-            first(&lengths, events.rows),
-        );
-    }
-    status
+    let events = load(rt, 2, &mut classes, &mut lengths)?;
+    let list = Lists {
+        classes: first(&classes, events),
+        lengths: first(&lengths, events),
+    };
+    replay(rt, rows, events, table, list)
 }
 
-// Runs the events and prints what came of it. The counts are those of the files, of which the slices may have less.
-fn replay<'a>(
+// Runs the events, prints what came of it, and says what a refusal names. The counts are those of the files, of which the slices may have
+// less.
+fn replay(
     rt: &HostRuntime,
     rows: u64,
     events: u64,
-    identifiers: &'a [u32],
-    parents: &'a [u32],
-    shares: &'a [u32],
-    classes: &'a [u32],
-    lengths: &'a [u32],
-) -> Status {
+    table: Columns,
+    list: Lists,
+) -> Result<(), Stopped> {
     let mut order = [0u32; MOST_EVENTS];
     let mut report = [0u64; REPORT_WORDS * HELD_ROWS];
     let mut lags = [0i64; HELD_ROWS];
     let mut working = [0u32; MOST_EVENTS];
-    let answer = engine::run(
-        Way::Heaps,
-        identifiers,
-        parents,
-        shares,
-        classes,
-        lengths,
+    let answer = engine::run::<Heaps>(
+        table.identifiers,
+        table.parents,
+        table.shares,
+        list.classes,
+        list.lengths,
         &mut order,
         &mut report,
         &mut lags,
         &mut working,
     );
-    if !print(rt, answer, identifiers, &order, &report, &lags) {
-        return Status::Failed;
+    print(rt, answer, table.identifiers, &order, &report, &lags)?;
+    if let Err(refusal) = answer {
+        explain(rt, refusal, rows, events, table, list);
+        return Err(Stopped::Refused);
     }
-    explain(
-        rt,
-        answer,
-        rows,
-        events,
-        identifiers,
-        parents,
-        shares,
-        classes,
-        lengths,
-    )
+    Ok(())
 }
 
-// Prints the answer and, of a done run, the results, and answers whether all of it was written.
-fn print<'a>(
+// Prints the answer and, of a done run, the results.
+fn print(
     rt: &HostRuntime,
-    answer: Answer,
-    identifiers: &'a [u32],
-    order: &'a [u32],
-    report: &'a [u64],
-    lags: &'a [i64],
-) -> bool {
-    let mut page = blank();
-    let used = lines::put_run(&mut page, 0, answer, identifiers, order, report, lags);
-    files::print(rt, &page, used)
+    answer: Result<u32, Refusal>,
+    identifiers: &[u32],
+    order: &[u32],
+    report: &[u64],
+    lags: &[i64],
+) -> Result<(), Stopped> {
+    let mut page: Page<RUN_BYTES> = Page::blank();
+    lines::put_run(&mut page, answer, identifiers, order, report, lags);
+    files::print(rt, &page)
 }
 
-// A page with nothing on it. Its length is all that lending it needs, and a proof that looks at more would count all its bytes.
-fn blank() -> [u8; RUN_BYTES]
-    ensures { 1480252 ≡ length result }
-{
-    [0; RUN_BYTES]
-}
-
-// A refusal as a sentence, to standard error; of a done run, nothing. Answers how it ended.
-fn explain<'a>(
+// A refusal as a sentence, to standard error.
+fn explain(
     rt: &HostRuntime,
-    answer: Answer,
+    refusal: Refusal,
     rows: u64,
     events: u64,
-    identifiers: &'a [u32],
-    parents: &'a [u32],
-    shares: &'a [u32],
-    classes: &'a [u32],
-    lengths: &'a [u32],
-) -> Status {
-    if answer.number == 0 {
-        return Status::Done;
-    }
-    let mut page = [0u8; SENTENCE_BYTES];
-    let used = begin_refusal(rt, &mut page, answer.number, file_of(answer.number));
-    let used = sentences::sentence(
-        &mut page,
-        used,
-        answer,
-        rows,
-        events,
-        identifiers,
-        parents,
-        shares,
-        classes,
-        lengths,
-    );
-    hand_over(STDERR_FILENO, &page, used);
-    Status::Refused
+    table: Columns,
+    list: Lists,
+) {
+    let mut page: Page<SENTENCE_BYTES> = Page::blank();
+    begin_refusal(rt, &mut page, refusal.number, file_of(refusal.number));
+    sentences::sentence(&mut page, refusal, rows, events, table, list);
+    say(&page);
 }
 
 // Which argument names the file that a refusal is in.

@@ -1,3 +1,3 @@
 -- What the functions' proofs share.
+pub mod Marks
 pub mod Names
-pub mod Rows

@@ -23,3 +23,18 @@ pub const HELD_BYTES: usize = 65536;
 
 // Room for any sentence on a refusal: the name of a file that was read, less than 4,096 bytes, and what is said of all rows.
 pub const SENTENCE_BYTES: usize = 16384;
+
+// The columns of a class table.
+#[derive(Clone, Copy)]
+pub struct Columns<'a> {
+    pub identifiers: &'a [u32],
+    pub parents: &'a [u32],
+    pub shares: &'a [u32],
+}
+
+// The columns of a list of events.
+#[derive(Clone, Copy)]
+pub struct Lists<'a> {
+    pub classes: &'a [u32],
+    pub lengths: &'a [u32],
+}

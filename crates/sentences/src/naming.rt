@@ -3,46 +3,42 @@ ghost use Rattle.std.specs.Prelude.{◌≡◌};
 ghost use Rattle.output.specs.Pages.{Puts};
 ghost use Rattle.sentences.specs.Files as files;
 
-use output::{put_named, put_text};
-
-// The byte `-`.
-const DASH: u8 = 45;
+use output::Page;
 
 // Whether a name stands for standard input.
+#[tactic(auto, unfolding(crate::specs::Files::is_input))]
 pub fn is_input(name: &[u8]) -> bool
     ensures { result ≡ files.is_input name.now }
 {
-    if name.len() == 1 {
-        return name[0] == DASH;
-    }
-    false
+    matches!(name, [b'-'])
 }
 
 // A file by its name as it was given.
-pub fn put_name(page: &mut [u8], used: usize, name: &[u8]) -> usize
-    ensures { Puts (files.shown name.now) page.old used page.new result }
+#[tactic(auto, unfolding(crate::specs::Files::shown, output::specs::Quoted::bytes_of))]
+pub fn put_name<const N: usize>(page: &mut Page<N>, name: &[u8])
+    ensures { Puts (files.shown name.now) page.old page.new }
 {
     if is_input(name) {
-        return put_text(page, used, b"standard input");
+        page.put_text(b"standard input");
+    } else {
+        page.put_text(name);
     }
-    put_text(page, used, name)
 }
 
 // The number of a refusal and the file that it is in; no name is no file.
-pub fn put_refused(page: &mut [u8], used: usize, number: u32, name: &[u8]) -> usize
-    ensures { Puts (files.refused number name.now) page.old used page.new result }
+pub fn put_refused<const N: usize>(page: &mut Page<N>, number: u32, name: &[u8])
+    ensures { Puts (files.refused number name.now) page.old page.new }
 {
-    let used = put_named(page, used, b"refused ", number);
-    let used = put_in(page, used, name);
-    put_text(page, used, b": ")
+    page.put_named(b"refused ", number);
+    put_in(page, name);
+    page.put_text(b": ");
 }
 
-fn put_in(page: &mut [u8], used: usize, name: &[u8]) -> usize
-    ensures { Puts (files.in_file name.now) page.old used page.new result }
+fn put_in<const N: usize>(page: &mut Page<N>, name: &[u8])
+    ensures { Puts (files.in_file name.now) page.old page.new }
 {
-    if name.len() == 0 {
-        return used;
+    if !name.is_empty() {
+        page.put_text(b" in ");
+        put_name(page, name);
     }
-    let used = put_text(page, used, b" in ");
-    put_name(page, used, name)
 }

@@ -10,7 +10,7 @@ use native.Mathlib.Omega.{arith}
 use borrow.Author.Tests.{lt-ltb, le-ltb, eq-eqb, ne_eqb}
 use Rattle.input.specs.Limits.{ticks, packets_a_step}
 use Rattle.rules.specs.Promise.{Ratio, whole_over, step_up}
-use Rattle.sheet.specs.declared.Figure.{Figure}
+use Rattle.sheet.specs.Paper.{Figure}
 use Rattle.sheet.specs.Paper.{fraction, greatest, lowest, limit, figure, ratio_of, outgrown, fitting, by_share, sum_of, with_ticks, stepped}
 use Rattle.sheet.proofs.Greatest.{greatest_divides}
 
@@ -181,10 +181,3 @@ module _ (largest more share : ℕ) (from : Figure) where
   pub step_fits : (stepped largest more share from).fits ≡ true → (by.fits ≡ true) × (stepped largest more share from ≡ figure (lowest (ticked more by)))
   unfolding stepped
   step_fits = ticks_fit more by
-
-  -- it keeps the denominator above 0
-  pub step_some :
-      (from.fits ≡ true → 0 < from.denominator) → (stepped largest more share from).fits ≡ true → 0 < (stepped largest more share from).denominator
-  step_some before fits =
-      let known = step_fits fits in
-      rw known.1 (denominator_some (ticked more by) (ticked_some more by (share_some largest share from before known.0)))

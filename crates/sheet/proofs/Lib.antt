@@ -1,5 +1,4 @@
 -- What the proofs of the sheet share, and what is proved of it apart from the code.
-pub mod Tests
 pub mod Greatest
 pub mod Figures
 pub mod Same

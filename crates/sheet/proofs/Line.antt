@@ -24,7 +24,7 @@ use Rattle.laws.proofs.Tree.Paths.{at_root, below_root, nearer, only_root}
 use Rattle.laws.proofs.Share.LineMost.{no_less}
 use Rattle.laws.proofs.Outcome.Results.{not_refused}
 use Rattle.laws.proofs.Outcome.Run.{sent, share_is_a_number, exact_share_is_a_number}
-use Rattle.sheet.specs.declared.Figure.{Figure}
+use Rattle.sheet.specs.Paper.{Figure}
 use Rattle.sheet.specs.Paper.{worked, dividing}
 use Rattle.sheet.proofs.Same.{Stands, same}
 

@@ -11,7 +11,7 @@ use lib.ListN.{get_or}
 use Rattle.input.specs.Limits.{ticks, packets_a_step}
 use Rattle.input.specs.Classes.{Tree, parent, share}
 use Rattle.rules.specs.Promise.{Ratio, whole_over, step_up, plus_ticks, climbed}
-use Rattle.sheet.specs.declared.Figure.{Figure}
+use Rattle.sheet.specs.Paper.{Figure}
 use Rattle.sheet.specs.Paper.{fraction, divides_both, greatest, lowest, limit, figure, ratio_of, fitting}
 use Rattle.sheet.specs.Paper.{by_share, sum_of, with_ticks, stepped, climbing, worked}
 use Rattle.sheet.proofs.Greatest.{greatest_divides, greatest_some, greatest_most}

@@ -6,7 +6,7 @@ use Rattle.words.specs.Unique.{Unique}
 use Rattle.words.proofs.Determined.{determined}
 use Rattle.input.specs.Limits.{ticks_a_step}
 use Rattle.input.specs.Shares.{rounded_up}
-use Rattle.sheet.specs.declared.Figure.{Figure}
+use Rattle.sheet.specs.Paper.{Figure}
 use Rattle.sheet.specs.Paper.{worked, dividing}
 use Rattle.sheet.specs.Stated.{Works, RoundsUp, Ticks, Divides}
 

@@ -6,7 +6,7 @@ use mathlib.Core.Bool.{true, false}
 use mathlib.Core.List.{[], ◌∷◌, ◌++◌, map}
 use Rattle.input.specs.Shares.{rounded_up}
 use Rattle.rules.specs.Promise.{step_up}
-use Rattle.sheet.specs.declared.Figure.{Figure}
+use Rattle.sheet.specs.Paper.{Figure}
 use Rattle.sheet.specs.Paper.{fraction, divides_both, greatest, lowest, figure, outgrown, fitting, by_share, sum_of, with_ticks, stepped, climbing, worked, dividing}
 use Rattle.sheet.specs.Stated.{Ticks}
 

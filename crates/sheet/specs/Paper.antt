@@ -2,7 +2,6 @@
 use Rattle.std.specs.Prelude.{ℕ, zero, suc, ◌+◌, ◌*◌, ◌/◌, ◌%◌, ◌^◌, Bool, true, false, not, ◌&&◌, List, ltb, eqb, get_or}
 use Rattle.input.specs.Limits.{ticks, scale, packets_a_step}
 use Rattle.rules.specs.Promise.{Ratio, whole_over, step_up}
-use Rattle.sheet.specs.declared.Figure.{Figure}
 
 -- ── lowest terms ──
 
@@ -28,6 +27,13 @@ lowest q =
 -- the numbers that a word holds are below this
 abbrev pub limit : ℕ
 limit = 2 ^ 64
+
+-- a number of bytes as a fraction in lowest terms; where `fits` is false the working has outgrown 64 bits, or met a share of 0, and the
+-- other two are 0
+pub record Figure : Type 0 where
+  pub fits : Bool
+  pub numerator : ℕ
+  pub denominator : ℕ
 
 abbrev pub figure : Ratio → Figure
 figure q = record { fits = true; numerator = q.numerator; denominator = q.denominator }

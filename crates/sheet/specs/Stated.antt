@@ -2,7 +2,7 @@
 use Rattle.std.specs.Prelude.{ℕ, ◌+◌, ◌≡◌, Bool, List}
 use Rattle.input.specs.Limits.{ticks_a_step}
 use Rattle.input.specs.Shares.{rounded_up}
-use Rattle.sheet.specs.declared.Figure.{Figure}
+use Rattle.sheet.specs.Paper.{Figure}
 use Rattle.sheet.specs.Paper.{worked, dividing}
 
 abbrev pub Works : ℕ → List ℕ → List ℕ → ℕ → ℕ → ℕ → ℕ → Figure → Type 0

@@ -2,11 +2,11 @@
 ghost use Rattle.std.specs.Prelude.{◌≤◌, length};
 ghost use Rattle.live_rules.specs.Layout.{state_words};
 
+use crate::STATE_BYTES;
 use crate::unwritable::cannot_store;
-use crate::{STATE_BYTES, Step};
-use files::{argument, errors, first_bytes, text_of};
+use files::{Stopped, argument, text_of};
 use live_rules::STATE_WORDS;
-use output::put_text;
+use output::Page;
 use std::fs::OpenFile;
 use std::io::Write;
 use std::rt::{Env, Files};
@@ -16,26 +16,26 @@ use std::{fs, io};
 const BESIDE_BYTES: usize = 131072 + 4;
 
 // Puts this state into the file that an argument names, in the place of what it holds; where that fails, it stays as it was, and that
-// is said. Answers whether it was done.
-pub fn store_state(rt: &(impl Env + Files), place: usize, state: &[u64]) -> bool
+// is said.
+pub fn store_state(
+    rt: &(impl Env + Files),
+    place: usize,
+    state: &[u64],
+) -> Result<(), Stopped>
     requires { state_words ≤ length state.now }
 {
     let mut bytes = [0u8; STATE_BYTES];
-    octets::write_longs(state, STATE_WORDS, &mut bytes);
+    octets::write_words(&state[..STATE_WORDS], &mut bytes);
     let mut name = [0u8; 131072];
     let length = argument(rt, place, &mut name);
     store_named(rt, &name[..length], &bytes)
 }
 
-fn store_named(rt: &impl Files, name: &[u8], bytes: &[u8]) -> bool {
-    let mut page = [0u8; BESIDE_BYTES];
-    let used = put_text(&mut page, 0, name);
-    let used = put_text(&mut page, used, b".new");
-    let step = step_of(replace(rt, name, first_bytes(&page, used), bytes));
-    if step.failed {
-        cannot_store(name, step.error);
-    }
-    !step.failed
+fn store_named(rt: &impl Files, name: &[u8], bytes: &[u8]) -> Result<(), Stopped> {
+    let mut beside: Page<BESIDE_BYTES> = Page::blank();
+    beside.put_text(name);
+    beside.put_text(b".new");
+    replace(rt, name, beside.text(), bytes).map_err(|error| cannot_store(name, error))
 }
 
 // By the file beside it, which is emptied where it is there already, and removed where a step fails.
@@ -62,22 +62,7 @@ fn write_and_rename<R: Files>(
 }
 
 // Writes the bytes, waits until they are on the disk, and closes the file.
-fn write_out<F: OpenFile + Write + Drop>(file: F, bytes: &[u8]) -> io::Result<()> {
-    let mut file = file;
+fn write_out<F: OpenFile + Write + Drop>(mut file: F, bytes: &[u8]) -> io::Result<()> {
     file.write_all(bytes)?;
     file.sync_all()
-}
-
-// A step by what the system answers.
-fn step_of(answer: io::Result<()>) -> Step {
-    match answer {
-        Ok(()) => Step {
-            failed: false,
-            error: 0,
-        },
-        Err(error) => Step {
-            failed: true,
-            error: errors::number(error),
-        },
-    }
 }

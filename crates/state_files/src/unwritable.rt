@@ -3,45 +3,51 @@ ghost use Rattle.output.specs.Pages.{Puts};
 ghost use Rattle.state_files.specs.Sentences as sentences;
 
 use crate::Unstored;
-use files::errors::{EACCES, EDQUOT, ENOENT, ENOSPC, ENOTDIR, EPERM, EROFS};
-use files::{STDERR_FILENO, hand_over, unreadable};
-use output::{put_byte, put_text};
+use files::{Stopped, Unread, say};
+use output::Page;
+use std::io::{Error, ErrorKind};
 
 // Room for the longest name that the system passes, and for the words around it.
 const PAGE: usize = 131072 + 512;
 
-pub fn cannot_store(name: &[u8], error: i32) {
-    let mut page = [0u8; PAGE];
-    let used = put_cannot_store(&mut page, name, why(error));
-    hand_over(STDERR_FILENO, &page, used);
+pub fn cannot_store(name: &[u8], error: Error) -> Stopped {
+    let mut page: Page<PAGE> = Page::blank();
+    put_cannot_store(&mut page, name, Unstored::from(error));
+    say(&page);
+    Stopped::Failed
 }
 
 // What the system's error means, of a file that is written and renamed.
-fn why(error: i32) -> Unstored {
-    match error {
-        ENOSPC | EDQUOT => Unstored::Full,
-        EACCES | EPERM | EROFS => Unstored::Forbidden,
-        ENOENT | ENOTDIR => Unstored::NoFolder,
-        _ => Unstored::Other(unreadable::why(error)),
+impl From<Error> for Unstored {
+    fn from(error: Error) -> Unstored {
+        match error.kind() {
+            ErrorKind::StorageFull | ErrorKind::QuotaExceeded => Unstored::Full,
+            ErrorKind::PermissionDenied | ErrorKind::ReadOnlyFilesystem => Unstored::Forbidden,
+            ErrorKind::NotFound | ErrorKind::NotADirectory => Unstored::NoFolder,
+            _ => Unstored::Other(Unread::from(error)),
+        }
     }
 }
 
-fn put_cannot_store(page: &mut [u8], name: &[u8], why: Unstored) -> usize
-    ensures { Puts (sentences.cannot_store name.now why) page.old 0 page.new result }
+fn put_cannot_store<const N: usize>(page: &mut Page<N>, name: &[u8], why: Unstored)
+    ensures { Puts (sentences.cannot_store name.now why) page.old page.new }
 {
-    let used = put_text(page, 0, b"cannot write ");
-    let used = put_text(page, used, name);
-    let used = put_why(page, used, why);
-    put_byte(page, used, 10)
+    page.put_text(b"cannot write ");
+    page.put_text(name);
+    why.put(page);
+    page.put_byte(b'\n');
 }
 
-fn put_why(page: &mut [u8], used: usize, why: Unstored) -> usize
-    ensures { Puts (sentences.why_unstored why) page.old used page.new result }
-{
-    match why {
-        Unstored::Full => put_text(page, used, b": the disk is full"),
-        Unstored::Forbidden => put_text(page, used, b": this user may not write it"),
-        Unstored::NoFolder => put_text(page, used, b": there is no such folder"),
-        Unstored::Other(reason) => unreadable::put_why(page, used, reason),
+impl Unstored {
+    #[tactic(auto, unfolding(crate::specs::Sentences::why_unstored, output::specs::Quoted::bytes_of))]
+    fn put<const N: usize>(self, page: &mut Page<N>)
+        ensures { Puts (sentences.why_unstored self) page.old page.new }
+    {
+        match self {
+            Unstored::Full => page.put_text(b": the disk is full"),
+            Unstored::Forbidden => page.put_text(b": this user may not write it"),
+            Unstored::NoFolder => page.put_text(b": there is no such folder"),
+            Unstored::Other(reason) => reason.put(page),
+        }
     }
 }

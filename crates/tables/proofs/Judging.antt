@@ -9,7 +9,7 @@ use native.Mathlib.Omega.{arith}
 use borrow.Author.Tests.{eq-eqb, ne_eqb}
 use Rattle.std.proofs.lemmas.Option.{none-some, same_Some}
 use Rattle.std.specs.Prelude.{Result, Ok, Err, None, Some}
-use Rattle.std.specs.Result.{result_err, IsErrAnd}
+use Rattle.std.specs.Result.{result_err, IsErrAnd, IfErr}
 use Rattle.input.specs.declared.Refusal.{Refusal}
 use Rattle.input.specs.Refusals.{nothing, or_else, first_below}
 use Rattle.tables.specs.Answers.{refusal_of}
@@ -33,9 +33,18 @@ pub judged_as : {A : Type 0} (one other : Refusal) (found : A) (r : Result A Ref
 judged_as one other found r same judged = rw (← same) judged
 
 -- an error that a `?` hands on
+pub err_is : {A : Type 0} (r : Result A Refusal) (e : Refusal) → IsErrAnd r (λ x. x ≡ e) → r ≡ Err e
+err_is (Ok x) e none = absurd none
+err_is (Err x) e same = ap Err same
+
 pub handed : {A : Type 0} (refusal : Refusal) (found : A) (r : Result A Refusal) (e : Refusal) → IsErrAnd r (λ x. x ≡ e) → Refuses refusal e → Judged refusal found r
 handed refusal found (Ok x) e none judged = absurd none
 handed refusal found (Err x) e same judged = rw same judged
+
+-- which has a number
+pub handed_number : {A : Type 0} (refusal : Refusal) (r : Result A Refusal) (e : Refusal) → IsErrAnd r (λ x. x ≡ e) → Refuses refusal e → IfErr r (λ x. x.number ≢ 0)
+handed_number refusal (Ok x) e none refuses = tt
+handed_number refusal (Err x) e same refuses = λ none. refuses.0 (ap (λ (y : Refusal). y.number) (sym (same ∙ refuses.1)) ∙ none)
 
 -- ── two ──
 

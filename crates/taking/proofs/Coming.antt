@@ -7,10 +7,12 @@ use native.Mathlib.Omega.{arith}
 use lib.ListN.{length, get_or}
 use Rattle.input.specs.Limits.{most_bytes}
 use Rattle.input.specs.Classes.{Tree}
-use Rattle.input.specs.Lent.{tree_with}
 use Rattle.rules.specs.Box.{Rows, Box, left}
 use Rattle.rules.specs.Steps.{arrival, departure}
-use Rattle.arrays.specs.Arrays.{rows_of}
+use Rattle.std.specs.Prelude.{Option}
+use Rattle.arrays.specs.declared.RowArrays.{RowArrays}
+use Rattle.arrays.specs.declared.CountArrays.{CountArrays}
+use Rattle.arrays.specs.Arrays.{rows_in, tree_in}
 use Rattle.hierarchy.specs.Sizes.{Small}
 use Rattle.counts.specs.Counts.{Counts}
 use Rattle.steps.specs.Ready.{Ready}
@@ -22,7 +24,6 @@ use Rattle.live_laws.proofs.Narrowing.{narrow, fits}
 use Rattle.moving.specs.Arrays.{Arrays, Able, Arrives, Finishes, Done}
 use Rattle.state.specs.declared.State.{State}
 use Rattle.state.specs.Opened.{Opened}
-use Rattle.taking.specs.declared.Moved.{Moved}
 use Rattle.taking.specs.Moved.{ArrivalComes, FinishComes, MovedTo}
 
 -- ── a sound state is ready for a step ──
@@ -59,19 +60,13 @@ module _ (live : Live) (holds : Holds live) where
 
 -- the tree that the arrays make, with the identifiers of the state
 abbrev pub tree_read : Live → State → Tree
-tree_read live state = tree_with state.rows live.tree.identifiers state.parents state.depths state.shares
+tree_read live state = tree_in state.rows_count live.tree.identifiers state.tree
 
 module _ (live : Live) (state : State) (opened : Opened live state) where
   pub tree_same : tree_read live state ≡ live.tree
   tree_same = rw (opened.rows, opened.parents, opened.depths, opened.shares) refl
 
-  pub arrays_read :
-      Arrays (box_of live)
-      (rows_of state.starts state.finishes state.virtuals state.heads state.head_lengths state.head_classes)
-      state.bytes
-      state.held
-      state.since
-      state.parent_since
+  pub arrays_read : Arrays (box_of live) (rows_in state.rows) state.counts
   unfolding box_of
   arrays_read =
       record {
@@ -117,20 +112,9 @@ module _ (live : Live) (state : State) (next size : ℕ) (comes : FinishComes li
 
 -- the rows of the box that a step makes of a tree, which is the state's
 pub moved_to :
-    (live : Live) (tree : Tree) → tree ≡ live.tree → (step : Tree → Box) (moved : Moved)
-    → Done (box_of live).order (step tree) moved.count moved.packet
-    (rows_of moved.starts moved.finishes moved.virtuals moved.heads moved.head_lengths moved.head_classes)
-    moved.bytes
-    moved.held
-    moved.since
-    moved.parent_since
-    → MovedTo (step live.tree) moved
+    (live : Live) (tree : Tree) → tree ≡ live.tree → (step : Tree → Box) (sent : Option ℕ) (rows : RowArrays) (counts : CountArrays)
+    → Done (box_of live).order (step tree) sent (rows_in rows) counts → MovedTo (step live.tree) sent rows counts
 unfolding box_of
-moved_to live tree same step moved done =
-    subst (λ (tree : Tree). MovedTo (step tree) moved) same
-    (record {
-      rows_are = done.arrays.rows_are;
-      counts_are = done.arrays.counts_are;
-      count_is = done.count_is ∙ ap length (sym done.order_is);
-      packet_is = done.packet_is ∙ ap (λ (xs : List ℕ). get_or xs 0 0) (sym done.order_is);
-    })
+moved_to live tree same step sent rows counts done =
+    subst (λ (tree : Tree). MovedTo (step tree) sent rows counts) same
+    (record { rows_are = done.arrays.rows_are; counts_are = done.arrays.counts_are; sent_is = sym done.order_is })

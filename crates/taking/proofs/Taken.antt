@@ -7,16 +7,17 @@ use mathlib.Core.List.{List, [], ◌∷◌, ◌++◌, tail}
 use native.Mathlib.Omega.{arith}
 use native.Mathlib.Numerals.{add-one}
 use lib.ListN.{length, get_or, take, drop}
+use Rattle.std.specs.Prelude.{Option, None, Some, IsSome}
+use Rattle.arrays.specs.declared.RowArrays.{RowArrays}
+use Rattle.arrays.specs.declared.CountArrays.{CountArrays}
+use Rattle.moving.specs.Arrays.{went}
 use Rattle.input.specs.declared.Event.{Event}
 use Rattle.input.specs.declared.Event.TheVariants.{Arrival, Finish}
 use Rattle.input.specs.Limits.{most_rows, most_bytes}
 use Rattle.input.specs.Classes.{Tree, row_of}
 use Rattle.rules.specs.Box.{Packet, Rows, Box, head, head_class, left}
 use Rattle.rules.specs.Steps.{arrival, departure, step}
-use Rattle.laws.specs.Kept.{Kept}
-use Rattle.laws.proofs.Event.Keeping.{arrival_kept, departure_kept}
 use Rattle.hierarchy.specs.Next.{next_of}
-use Rattle.live_rules.specs.declared.LiveAnswer.{LiveAnswer}
 use Rattle.live_rules.specs.Limits.{most_accepted}
 use Rattle.live_rules.specs.Layout.{held_at, state_words}
 use Rattle.live_rules.specs.State.{Held, Live, queue, box_of, events, packets_at, live_with, live_in, packets_stored, stored}
@@ -27,49 +28,32 @@ use Rattle.live_laws.specs.Holds.{Holds}
 use Rattle.live_laws.proofs.EventStored.{event_stored, event_packets}
 use Rattle.live_laws.proofs.After.{queue_held}
 use Rattle.live_laws.proofs.Finishing.{line_class_sends, line_first}
-use Rattle.storing.specs.Packets.{place_of, left_out, Worded}
+use Rattle.storing.specs.Packets.{Finds, place_of, left_out, Worded}
 use Rattle.storing.proofs.Packets.{without_place}
 use Rattle.state.specs.declared.State.{State}
 use Rattle.state.specs.Opened.{Opened}
-use Rattle.taking.specs.declared.Moved.{Moved}
 use Rattle.taking.specs.Moved.{ArrivalComes, FinishComes, MovedTo}
-use Rattle.taking.specs.Taken.{ArrivalTakes, FinishTakes, FullMoved, Keeps, rows_kept, left_of, taken}
+use Rattle.taking.specs.Taken.{ArrivalTakes, FinishTakes, Keeps, rows_kept, left_of, taken}
 use Rattle.taking.proofs.Behind.{place_led, queue_behind, fitting_worded}
 
 -- ── the rows after it ──
 
--- the lists of a box that is well kept are full
-pub full_moved : (tree : Tree) (big : ℕ → ℕ) (now : ℕ) (box : Box) → Kept tree big now box → (moved : Moved) → MovedTo box moved → FullMoved moved
-full_moved tree big now box kept moved to =
-    let rows = kept.rows_full in
-    let are = to.rows_are in
-    let counts = to.counts_are in
-    record {
-      starts = ap (λ (a : Rows). length a.starts) (sym are) ∙ rows.starts_full;
-      finishes = ap (λ (a : Rows). length a.finishes) (sym are) ∙ rows.finishes_full;
-      virtuals = ap (λ (a : Rows). length a.virtuals) (sym are) ∙ rows.virtuals_full;
-      heads = ap (λ (a : Rows). length a.heads) (sym are) ∙ rows.heads_full;
-      head_lengths = ap (λ (a : Rows). length a.head_lengths) (sym are) ∙ rows.head_lengths_full;
-      head_classes = ap (λ (a : Rows). length a.head_classes) (sym are) ∙ rows.head_classes_full;
-      bytes = ap length (sym counts.bytes) ∙ kept.bytes_full;
-      held = ap length (sym counts.held) ∙ kept.held_full;
-      since = ap length (sym counts.since) ∙ kept.since_full;
-      parent_since = ap length (sym counts.parent_since) ∙ kept.parent_since_full;
-    }
-
 -- the state after an event keeps them
 pub took_keeps :
-    (live : Live) (event : Event) (accepted : ℕ) (moved : Moved) → accepted_after live.accepted event ≡ accepted → MovedTo (box_after live event) moved
-    → Keeps (took live event) accepted moved
+    (live : Live) (event : Event) (accepted : ℕ) (sent : Option ℕ) (rows : RowArrays) (counts : CountArrays)
+    → accepted_after live.accepted event ≡ accepted → MovedTo (box_after live event) sent rows counts → Keeps (took live event) accepted rows counts
 unfolding took
-took_keeps live event accepted moved counted to =
+took_keeps live event accepted sent rows counts counted to =
     record {
       accepted_is = counted;
       rows_are = to.rows_are;
-      bytes_are = to.counts_are.bytes;
-      held_are = to.counts_are.held;
-      since_are = to.counts_are.since;
-      parent_since_are = to.counts_are.parent_since;
+      counts_are =
+          record {
+            bytes = to.counts_are.bytes;
+            held = to.counts_are.held;
+            since = to.counts_are.since;
+            parent_since = to.counts_are.parent_since;
+          };
     }
 
 -- ── the words ──
@@ -98,15 +82,13 @@ module _ (words : List ℕ) (inside : state_words ≤ length words) where
 
   -- the answer and the words
   pub all_left :
-      (event : Event) (moved : Moved) (after : List ℕ) → MovedTo (box_after (live_in words) event) moved → after ≡ stored (took (live_in words) event) words
-      → left_of (record { number = 0; place = 0; second = 0; count = moved.count; packet = moved.packet }) after ≡ taken words event
-  unfolding taken doing
-  all_left event moved after to are = rw (to.count_is, to.packet_is, are) refl
+      (event : Event) (sent : Option ℕ) (rows : RowArrays) (counts : CountArrays) (after : List ℕ)
+      → MovedTo (box_after (live_in words) event) sent rows counts → after ≡ stored (took (live_in words) event) words
+      → left_of (doing (went sent)) after ≡ taken words event
+  unfolding taken
+  all_left event sent rows counts after to are = rw (to.sent_is, are) refl
 
-abbrev answer_of : Moved → LiveAnswer
-answer_of moved = record { number = 0; place = 0; second = 0; count = moved.count; packet = moved.packet }
-
-few_rows : (live : Live) (state : State) → Holds live → Opened live state → state.rows ≤ most_rows
+few_rows : (live : Live) (state : State) → Holds live → Opened live state → state.rows_count ≤ most_rows
 few_rows live state holds opened = let few = holds.counted.few_rows in let rows = opened.rows in omega arith
 
 -- ── an arrival ──
@@ -127,27 +109,16 @@ module _ (live : Live) (state : State) (k size name : ℕ) (takes : ArrivalTakes
         name_is = name_so;
       }
 
-  pub arrival_full : (moved : Moved) → MovedTo (arrival live.tree name k size (box_of live)) moved → FullMoved moved
-  arrival_full moved to =
-      let holds = takes.holds in
-      full_moved live.tree (λ r. most_bytes) (suc (events live)) (arrival live.tree (events live) k size (box_of live))
-      (arrival_kept live.tree holds.treed.sound (λ r. most_bytes) (λ j positive inside. omega arith) (events live) (box_of live) holds.kept k size
-      takes.sender
-      takes.some_bytes
-      takes.few_bytes)
-      moved
-      (rw name_so at to)
-
   arrival_moved :
-      (class : ℕ) → row_of live.tree class ≡ k → (moved : Moved) → MovedTo (arrival live.tree name k size (box_of live)) moved
-      → MovedTo (box_after live (Arrival class size)) moved
+      (class : ℕ) → row_of live.tree class ≡ k → (sent : Option ℕ) (rows : RowArrays) (counts : CountArrays)
+      → MovedTo (arrival live.tree name k size (box_of live)) sent rows counts → MovedTo (box_after live (Arrival class size)) sent rows counts
   unfolding box_after step
-  arrival_moved class row moved to = rw (row, ← name_so) to
+  arrival_moved class row sent rows counts to = rw (row, ← name_so) to
 
 module _
     (words : List ℕ) (inside : state_words ≤ length words) (state : State) (k size name : ℕ) (takes : ArrivalTakes (live_in words) state k size)
-    (named : name ≡ 2 * state.accepted - state.packets) (moved : Moved) (to : MovedTo (arrival (live_in words).tree name k size (box_of (live_in words))) moved)
-    (class : ℕ) (row : row_of (live_in words).tree class ≡ k) (between after : List ℕ) where
+    (named : name ≡ 2 * state.accepted - state.packets) (sent : Option ℕ) (rows : RowArrays) (counts : CountArrays)
+    (to : MovedTo (arrival (live_in words).tree name k size (box_of (live_in words))) sent rows counts) (class : ℕ) (row : row_of (live_in words).tree class ≡ k) (between after : List ℕ) where
   abbrev live : Live
   live = live_in words
 
@@ -159,22 +130,22 @@ module _
   joined = rw (row, ← name_so live state k size name takes named) refl
 
   pub arrival_left :
-      ((other : Live) → Keeps other (state.accepted + 1) moved → between ≡ rows_kept state.rows other words)
+      ((other : Live) → Keeps other (state.accepted + 1) rows counts → between ≡ rows_kept state.rows_count other words)
       → ((packets : List Held) → packets_at state.packets between ≡ packets → after ≡ packets_stored (packets ++ new ∷ []) between)
-      → left_of (answer_of moved) after ≡ taken words (Arrival class size)
+      → left_of (doing (went sent)) after ≡ taken words (Arrival class size)
   unfolding accepted_after
   arrival_left rows_stored put =
       let opened = takes.opened in
-      let moved_so = arrival_moved live state k size name takes named class row moved to in
+      let moved_so = arrival_moved live state k size name takes named class row sent rows counts to in
       let counted : suc live.accepted ≡ state.accepted + 1 = ap suc (sym opened.accepted) ∙ sym (add-one state.accepted) in
-      let kept = rows_stored (took live (Arrival class size)) (took_keeps live (Arrival class size) (state.accepted + 1) moved counted moved_so) in
+      let kept = rows_stored (took live (Arrival class size)) (took_keeps live (Arrival class size) (state.accepted + 1) sent rows counts counted moved_so) in
       let few = few_rows live state takes.holds opened in
       let stay : packets_at state.packets between ≡ live.packets
       = ap (packets_at state.packets) kept
-      ∙ packets_kept words inside state.rows state.packets (took live (Arrival class size)) few opened.packets in
-      all_left words inside (Arrival class size) moved after moved_so
+      ∙ packets_kept words inside state.rows_count state.packets (took live (Arrival class size)) few opened.packets in
+      all_left words inside (Arrival class size) sent rows counts after moved_so
       (put live.packets stay ∙ ap (packets_stored (live.packets ++ new ∷ [])) kept
-      ∙ all_stored words inside (Arrival class size) state.rows takes.holds.counted.few_rows opened.rows (live.packets ++ new ∷ []) joined)
+      ∙ all_stored words inside (Arrival class size) state.rows_count takes.holds.counted.few_rows opened.rows (live.packets ++ new ∷ []) joined)
 
 -- ── the line's finish ──
 
@@ -185,7 +156,7 @@ module _ (live : Live) (state : State) (takes : FinishTakes live state) where
   abbrev c : ℕ
   c = head_class live.rows 0
 
-  pub line_some : 1 ≤ get_or state.heads 0 0
+  pub line_some : 1 ≤ get_or state.rows.heads 0 0
   line_some = rw takes.opened.heads (some_head (head live.rows 0) takes.busy)
     where
       some_head : (n : ℕ) → n ≢ 0 → 1 ≤ n
@@ -195,10 +166,10 @@ module _ (live : Live) (state : State) (takes : FinishTakes live state) where
   line_name = pred (head live.rows 0)
 
   -- the name that is looked for is the line's
-  pub name_of_line : get_or state.heads 0 0 - 1 ≡ line_name
+  pub name_of_line : get_or state.rows.heads 0 0 - 1 ≡ line_name
   name_of_line = rw takes.opened.heads (one_less (head live.rows 0))
 
-  pub class_of_line : get_or state.head_classes 0 0 ≡ c
+  pub class_of_line : get_or state.rows.head_classes 0 0 ≡ c
   class_of_line = ap (λ (xs : List ℕ). get_or xs 0 0) takes.opened.head_classes
 
   pub line_inside : place_of line_name live.packets < length live.packets
@@ -226,14 +197,6 @@ module _ (live : Live) (state : State) (takes : FinishTakes live state) where
   finish_comes next size few is =
       record { holds = takes.holds; opened = takes.opened; busy = takes.busy; few_bytes = few; next_is = next_so ∙ sym is }
 
-  pub finish_full : (moved : Moved) → MovedTo (departure live.tree (box_of live)) moved → FullMoved moved
-  unfolding box_of
-  finish_full =
-      let holds = takes.holds in
-      full_moved live.tree (λ r. most_bytes) (suc (events live)) (departure live.tree (box_of live))
-      (departure_kept live.tree holds.treed.sound (λ r. most_bytes) (λ j positive inside. omega arith) (events live) (box_of live) holds.kept
-      takes.busy)
-
 -- what is found in the words
 module _ (words : List ℕ) (inside : state_words ≤ length words) (state : State) (takes : FinishTakes (live_in words) state) where
   abbrev here : Live
@@ -248,8 +211,25 @@ module _ (words : List ℕ) (inside : state_words ≤ length words) (state : Sta
   pub held_worded : Worded (packets_at state.packets words)
   held_worded = rw held_read (packets_worded here state takes)
 
+  -- it is found
+  line_there : (name : ℕ) → name ≡ get_or state.rows.heads 0 0 - 1 → place_of name (packets_at state.packets words) ≡ place_of line here.packets
+  line_there name named = ap₂ place_of (named ∙ name_of_line here state takes) held_read
+
+  pub line_is_some :
+      (name : ℕ) → name ≡ get_or state.rows.heads 0 0 - 1 → (r : Option ℕ) → Finds name (packets_at state.packets words) r → IsSome r
+  line_is_some name named None beyond =
+      let within = line_inside here state takes in
+      let there = line_there name named in
+      let same = ap length held_read in
+      absurd (omega (arith, beyond))
+  line_is_some name named (Some i) found = refl
+
+  pub place_found :
+      (name at : ℕ) (r : Option ℕ) → Finds name (packets_at state.packets words) r → r ≡ Some at → at ≡ place_of name (packets_at state.packets words)
+  place_found name at r finds is = (subst (Finds name (packets_at state.packets words)) is finds).1
+
   module _
-      (name at : ℕ) (named : name ≡ get_or state.heads 0 0 - 1) (found : at ≡ place_of name (packets_at state.packets words)) where
+      (name at : ℕ) (named : name ≡ get_or state.rows.heads 0 0 - 1) (found : at ≡ place_of name (packets_at state.packets words)) where
     pub line_found : at ≡ place_of line here.packets
     line_found = found ∙ ap₂ place_of (named ∙ name_of_line here state takes) held_read
 
@@ -261,7 +241,7 @@ module _ (words : List ℕ) (inside : state_words ≤ length words) (state : Sta
         omega arith
 
     pub next_comes :
-        (class next size : ℕ) → class ≡ get_or state.head_classes 0 0 → size ≤ most_bytes
+        (class next size : ℕ) → class ≡ get_or state.rows.head_classes 0 0 → size ≤ most_bytes
         → next_of next size ≡ take 1 (queue (drop (at + 1) (packets_at state.packets words)) class) → FinishComes here state next size
     next_comes class next size classed few is =
         finish_comes here state takes next size few
@@ -276,24 +256,24 @@ module _ (words : List ℕ) (inside : state_words ≤ length words) (state : Sta
         refl)
 
 module _
-    (words : List ℕ) (inside : state_words ≤ length words) (state : State) (takes : FinishTakes (live_in words) state) (moved : Moved)
-    (to : MovedTo (departure (live_in words).tree (box_of (live_in words))) moved) (between after : List ℕ) where
+    (words : List ℕ) (inside : state_words ≤ length words) (state : State) (takes : FinishTakes (live_in words) state) (sent : Option ℕ)
+    (rows : RowArrays) (counts : CountArrays) (to : MovedTo (departure (live_in words).tree (box_of (live_in words))) sent rows counts) (between after : List ℕ) where
   pub finish_left :
       (at : ℕ) → at ≡ place_of (pred (head (live_in words).rows 0)) (live_in words).packets
-      → ((other : Live) → Keeps other state.accepted moved → between ≡ rows_kept state.rows other words)
+      → ((other : Live) → Keeps other state.accepted rows counts → between ≡ rows_kept state.rows_count other words)
       → after ≡ packets_stored (left_out at (packets_at state.packets between)) between
-      → left_of (answer_of moved) after ≡ taken words Finish
+      → left_of (doing (went sent)) after ≡ taken words Finish
   unfolding accepted_after box_after step packets_after
   finish_left at found rows_stored taken_out =
       let live = live_in words in
       let opened = takes.opened in
       let name = pred (head live.rows 0) in
-      let kept = rows_stored (took live Finish) (took_keeps live Finish state.accepted moved (sym opened.accepted) to) in
+      let kept = rows_stored (took live Finish) (took_keeps live Finish state.accepted sent rows counts (sym opened.accepted) to) in
       let few = few_rows live state takes.holds opened in
       let stay : packets_at state.packets between ≡ live.packets
-      = ap (packets_at state.packets) kept ∙ packets_kept words inside state.rows state.packets (took live Finish) few opened.packets in
+      = ap (packets_at state.packets) kept ∙ packets_kept words inside state.rows_count state.packets (took live Finish) few opened.packets in
       let rest : left_out at (packets_at state.packets between) ≡ without name live.packets
       = ap₂ left_out found stay ∙ sym (without_place name live.packets) in
-      all_left words inside Finish moved after to
+      all_left words inside Finish sent rows counts after to
       (taken_out ∙ ap (packets_stored (left_out at (packets_at state.packets between))) kept
-      ∙ all_stored words inside Finish state.rows takes.holds.counted.few_rows opened.rows (left_out at (packets_at state.packets between)) rest)
+      ∙ all_stored words inside Finish state.rows_count takes.holds.counted.few_rows opened.rows (left_out at (packets_at state.packets between)) rest)

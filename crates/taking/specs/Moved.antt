@@ -1,16 +1,18 @@
 -- What an event needs that is taken, and the rows after it.
-use Rattle.std.specs.Prelude.{ℕ, ◌<◌, ◌≤◌, ◌≡◌, ◌≢◌, length, get_or, take}
+use Rattle.std.specs.Prelude.{ℕ, ◌<◌, ◌≤◌, ◌≡◌, ◌≢◌, Option, take}
 use Rattle.input.specs.Limits.{most_bytes}
 use Rattle.rules.specs.Box.{Box, head, left}
 use Rattle.laws.specs.Sound.{Sender}
-use Rattle.arrays.specs.Arrays.{rows_of}
+use Rattle.arrays.specs.declared.RowArrays.{RowArrays}
+use Rattle.arrays.specs.declared.CountArrays.{CountArrays}
+use Rattle.arrays.specs.Arrays.{rows_in}
 use Rattle.hierarchy.specs.Next.{next_of}
 use Rattle.counts.specs.Counts.{Counts}
 use Rattle.live_rules.specs.State.{Live, box_of, events}
 use Rattle.live_laws.specs.Holds.{Holds}
+use Rattle.moving.specs.Arrays.{went}
 use Rattle.state.specs.declared.State.{State}
 use Rattle.state.specs.Opened.{Opened}
-use Rattle.taking.specs.declared.Moved.{Moved}
 
 -- a packet of so many bytes can arrive for class k of a sound state that was read, with the next event's name
 pub record ArrivalComes (live : Live) (state : State) (k size name : ℕ) : Type 0 where
@@ -30,10 +32,7 @@ pub record FinishComes (live : Live) (state : State) (next size : ℕ) : Type 0 
   pub next_is : take 1 (left (box_of live)) ≡ next_of next size
 
 -- these are the rows of a box, and what it put on the line
-pub record MovedTo (box : Box) (moved : Moved) : Type 0 where
-  pub rows_are :
-      box.rows
-      ≡ rows_of moved.starts moved.finishes moved.virtuals moved.heads moved.head_lengths moved.head_classes
-  pub counts_are : Counts box moved.bytes moved.held moved.since moved.parent_since
-  pub count_is : moved.count ≡ length box.order
-  pub packet_is : moved.packet ≡ get_or box.order 0 0
+pub record MovedTo (box : Box) (sent : Option ℕ) (rows : RowArrays) (counts : CountArrays) : Type 0 where
+  pub rows_are : box.rows ≡ rows_in rows
+  pub counts_are : Counts box counts
+  pub sent_is : went sent ≡ box.order

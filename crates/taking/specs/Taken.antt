@@ -5,7 +5,10 @@ use Rattle.input.specs.declared.Event.{Event}
 use Rattle.input.specs.Limits.{most_rows, most_bytes}
 use Rattle.rules.specs.Box.{head}
 use Rattle.laws.specs.Sound.{Sender}
-use Rattle.arrays.specs.Arrays.{rows_of}
+use Rattle.arrays.specs.declared.RowArrays.{RowArrays}
+use Rattle.arrays.specs.declared.CountArrays.{CountArrays}
+use Rattle.arrays.specs.Arrays.{rows_in}
+use Rattle.storing.specs.Counted.{Counted}
 use Rattle.live_rules.specs.declared.LiveAnswer.{LiveAnswer}
 use Rattle.live_rules.specs.Limits.{most_held, most_accepted}
 use Rattle.live_rules.specs.Layout.{accepted_word}
@@ -15,7 +18,6 @@ use Rattle.live_rules.specs.Outcomes.{Left, doing}
 use Rattle.live_laws.specs.Holds.{Holds}
 use Rattle.state.specs.declared.State.{State}
 use Rattle.state.specs.Opened.{Opened}
-use Rattle.taking.specs.declared.Moved.{Moved}
 
 -- a packet of so many bytes can arrive for class k of a sound state that was read, and there is room for it
 pub record ArrivalTakes (live : Live) (state : State) (k size : ℕ) : Type 0 where
@@ -33,29 +35,11 @@ pub record FinishTakes (live : Live) (state : State) : Type 0 where
   pub opened : Opened live state
   pub busy : head live.rows 0 ≢ 0
 
--- each list has an entry for each row that there can be
-pub record FullMoved (moved : Moved) : Type 0 where
-  pub starts : length moved.starts ≡ most_rows
-  pub finishes : length moved.finishes ≡ most_rows
-  pub virtuals : length moved.virtuals ≡ most_rows
-  pub heads : length moved.heads ≡ most_rows
-  pub head_lengths : length moved.head_lengths ≡ most_rows
-  pub head_classes : length moved.head_classes ≡ most_rows
-  pub bytes : length moved.bytes ≡ most_rows
-  pub held : length moved.held ≡ most_rows
-  pub since : length moved.since ≡ most_rows
-  pub parent_since : length moved.parent_since ≡ most_rows
-
 -- a state with these rows, once so many packets were accepted
-pub record Keeps (live : Live) (accepted : ℕ) (moved : Moved) : Type 0 where
+pub record Keeps (live : Live) (accepted : ℕ) (rows : RowArrays) (counts : CountArrays) : Type 0 where
   pub accepted_is : live.accepted ≡ accepted
-  pub rows_are :
-      live.rows
-      ≡ rows_of moved.starts moved.finishes moved.virtuals moved.heads moved.head_lengths moved.head_classes
-  pub bytes_are : live.bytes ≡ moved.bytes
-  pub held_are : live.held ≡ moved.held
-  pub since_are : live.since ≡ moved.since
-  pub parent_since_are : live.parent_since ≡ moved.parent_since
+  pub rows_are : live.rows ≡ rows_in rows
+  pub counts_are : Counted live counts
 
 -- all that an event stores but the packets
 unfoldable pub rows_kept : ℕ → Live → List ℕ → List ℕ

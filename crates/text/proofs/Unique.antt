@@ -4,9 +4,8 @@ use Prim.Native.Nat.{ℕ}
 use mathlib.Core.List.{List}
 use Rattle.words.specs.Unique.{Unique}
 use Rattle.words.proofs.Determined.{determined}
-use Rattle.text.specs.declared.Found.{Found}
 use Rattle.text.specs.declared.Scan.{Scan}
-use Rattle.text.specs.Reading.{field_of, unread, after, at_end, wrong}
+use Rattle.text.specs.Reading.{Found, field_of, unread, after, at_end, wrong}
 use Rattle.text.specs.Stated.{Begins, Feeds, Finishes, Faults, Numbers}
 
 pub one_beginning : Unique Begins

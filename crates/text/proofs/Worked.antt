@@ -3,15 +3,16 @@
 use Prim.Native.Nat.{ℕ}
 use mathlib.Core.Path.{◌≡◌, refl}
 use mathlib.Core.List.{List, [], ◌∷◌, ◌++◌, map}
-use Rattle.text.specs.declared.Found.{Found}
-use Rattle.text.specs.declared.Found.TheVariants.{Nothing, Row, NoEnd, WrongHeading, WrongCount, NoNumber, TooLarge}
+use Rattle.std.specs.Prelude.{Result, Ok, Err}
+use Rattle.text.specs.declared.Fault.{Fault}
+use Rattle.text.specs.declared.Fault.TheVariants.{NoEnd, WrongHeading, WrongCount, NoNumber, TooLarge}
 use Rattle.text.specs.declared.Scan.{Scan}
 use Rattle.text.specs.Reading
 
 -- what a file's last byte shows, what its end shows, and its good lines
 record Read : Type 0 where
-  last : Found
-  end : Found
+  last : Reading.Found
+  end : Result (Unit {0}) Fault
   lines : ℕ
 
 read : Scan → Read
@@ -47,27 +48,27 @@ files =
 
 found : List Read
 found =
-    record { last = Nothing; end = Nothing; lines = 1 }
-    ∷ record { last = Row 7 42; end = Nothing; lines = 2 }
-    ∷ record { last = Row 7 42; end = Nothing; lines = 2 }
-    ∷ record { last = Nothing; end = NoEnd; lines = 1 }
-    ∷ record { last = Nothing; end = NoEnd; lines = 1 }
-    ∷ record { last = NoNumber 2; end = NoNumber 2; lines = 1 }
-    ∷ record { last = NoNumber 1; end = NoNumber 1; lines = 1 }
-    ∷ record { last = WrongCount; end = WrongCount; lines = 1 }
-    ∷ record { last = WrongCount; end = WrongCount; lines = 1 }
-    ∷ record { last = WrongCount; end = WrongCount; lines = 1 }
-    ∷ record { last = NoNumber 1; end = NoNumber 1; lines = 1 }
-    ∷ record { last = NoNumber 2; end = NoNumber 2; lines = 1 }
-    ∷ record { last = TooLarge 1; end = TooLarge 1; lines = 1 }
-    ∷ record { last = NoNumber 1; end = NoNumber 1; lines = 1 }
-    ∷ record { last = Row 7 0; end = Nothing; lines = 3 }
+    record { last = Reading.nothing; end = Ok tt; lines = 1 }
+    ∷ record { last = Reading.row 7 42; end = Ok tt; lines = 2 }
+    ∷ record { last = Reading.row 7 42; end = Ok tt; lines = 2 }
+    ∷ record { last = Reading.nothing; end = Err NoEnd; lines = 1 }
+    ∷ record { last = Reading.nothing; end = Err NoEnd; lines = 1 }
+    ∷ record { last = Err (NoNumber 2); end = Err (NoNumber 2); lines = 1 }
+    ∷ record { last = Err (NoNumber 1); end = Err (NoNumber 1); lines = 1 }
+    ∷ record { last = Err WrongCount; end = Err WrongCount; lines = 1 }
+    ∷ record { last = Err WrongCount; end = Err WrongCount; lines = 1 }
+    ∷ record { last = Err WrongCount; end = Err WrongCount; lines = 1 }
+    ∷ record { last = Err (NoNumber 1); end = Err (NoNumber 1); lines = 1 }
+    ∷ record { last = Err (NoNumber 2); end = Err (NoNumber 2); lines = 1 }
+    ∷ record { last = Err (TooLarge 1); end = Err (TooLarge 1); lines = 1 }
+    ∷ record { last = Err (NoNumber 1); end = Err (NoNumber 1); lines = 1 }
+    ∷ record { last = Reading.row 7 0; end = Ok tt; lines = 3 }
     ∷ []
 
 worked : map events files ≡ found
 unfolding read events files found Reading.heading Reading.with_digit Reading.with_byte Reading.agreed_with
     Reading.commas_with Reading.field_with Reading.grown Reading.settled Reading.longer Reading.heading_shown Reading.number_in
-    Reading.from_second Reading.numbers Reading.shown Reading.lines_after Reading.ended Reading.within Reading.after
+    Reading.row_of Reading.numbers Reading.shown Reading.lines_after Reading.ended Reading.within Reading.after
     Reading.at_end Reading.after_all
 worked = refl
 
@@ -82,13 +83,13 @@ whole_files =
 
 worked_whole :
     map (λ (bytes : List ℕ). read (Reading.after_all Reading.unread bytes)) whole_files
-    ≡ record { last = Nothing; end = WrongHeading; lines = 0 }
-    ∷ record { last = Nothing; end = NoEnd; lines = 0 }
-    ∷ record { last = WrongHeading; end = WrongHeading; lines = 0 }
-    ∷ record { last = Row 1 0; end = Nothing; lines = 2 }
+    ≡ record { last = Reading.nothing; end = Err WrongHeading; lines = 0 }
+    ∷ record { last = Reading.nothing; end = Err NoEnd; lines = 0 }
+    ∷ record { last = Err WrongHeading; end = Err WrongHeading; lines = 0 }
+    ∷ record { last = Reading.row 1 0; end = Ok tt; lines = 2 }
     ∷ []
 unfolding read whole_files Reading.heading Reading.with_digit Reading.with_byte Reading.agreed_with
     Reading.commas_with Reading.field_with Reading.grown Reading.settled Reading.longer Reading.heading_shown Reading.number_in
-    Reading.from_second Reading.numbers Reading.shown Reading.lines_after Reading.ended Reading.within Reading.after
+    Reading.row_of Reading.numbers Reading.shown Reading.lines_after Reading.ended Reading.within Reading.after
     Reading.at_end Reading.after_all
 worked_whole = refl

@@ -1,11 +1,22 @@
 -- How a list of events is read, byte by byte.
-use Rattle.std.specs.Prelude.{ℕ, ◌+◌, ◌-◌, ◌*◌, ◌^◌, min, Bool, true, false, cond, ◌&&◌, List, [], ◌∷◌, leb, ltb, eqb, length, get_or}
+use Rattle.std.specs.Prelude.{ℕ, ◌+◌, ◌-◌, ◌*◌, ◌^◌, min, Bool, true, false, cond, ◌&&◌, List, [], ◌∷◌, leb, ltb, eqb, length, get_or, Option, Some, None, Result, Ok, Err, is_err}
 use Rattle.text.specs.declared.Field.{Field}
 use Rattle.text.specs.declared.Field.TheVariants.{Empty, Number, Over, Other}
 use Rattle.text.specs.declared.Line.{Line}
-use Rattle.text.specs.declared.Found.{Found}
-use Rattle.text.specs.declared.Found.TheVariants.{Nothing, Row, NoEnd, WrongHeading, WrongCount, NoNumber, TooLarge}
+use Rattle.text.specs.declared.Row.{Row}
+use Rattle.text.specs.declared.Fault.{Fault}
+use Rattle.text.specs.declared.Fault.TheVariants.{NoEnd, WrongHeading, WrongCount, NoNumber, TooLarge}
 use Rattle.text.specs.declared.Scan.{Scan}
+
+-- what the byte read last has shown: nothing, a whole line of numbers, or what is wrong with the line
+abbrev pub Found : Type 0
+Found = Result (Option Row) Fault
+
+abbrev pub nothing : Found
+nothing = Ok None
+
+abbrev pub row : ℕ → ℕ → Found
+row a b = Ok (Some (record { first = a; second = b }))
 
 -- ── the bytes that count ──
 
@@ -60,16 +71,13 @@ field_of bytes = with_bytes Empty bytes
 -- ── a line ──
 
 abbrev pub empty_line : Line
-empty_line = record { agreed = 0; commas = 0; first = Empty; second = Empty; held = false }
-
--- more than the heading has
-abbrev pub differs : ℕ
-differs = 99
+empty_line = record { agreed = Some 0; commas = 0; first = Empty; second = Empty; held = false }
 
 -- how many bytes a line has, as long as they are those of the heading
-unfoldable pub agreed_with : ℕ → ℕ → ℕ
-agreed_with agreed byte =
-    cond (ltb agreed (length heading) && eqb (get_or heading agreed 0) byte) (agreed + 1) differs
+unfoldable pub agreed_with : Option ℕ → ℕ → Option ℕ
+agreed_with None byte = None
+agreed_with (Some agreed) byte =
+    cond (ltb agreed (length heading) && eqb (get_or heading agreed 0) byte) (Some (agreed + 1)) None
 
 -- how many commas a line has, 2 for two or more
 unfoldable pub commas_with : ℕ → ℕ → ℕ
@@ -111,47 +119,45 @@ longer line byte = cond (eqb byte carriage_return) (holding (settled line)) (gro
 
 -- ── what a line shows when it ends ──
 
-unfoldable pub heading_shown : ℕ → Found
-heading_shown agreed = cond (eqb agreed (length heading)) Nothing WrongHeading
+unfoldable pub heading_shown : Option ℕ → Found
+heading_shown None = Err WrongHeading
+heading_shown (Some agreed) = cond (eqb agreed (length heading)) nothing (Err WrongHeading)
 
 -- how many commas a line of numbers has
 abbrev pub wanted_commas : ℕ
 wanted_commas = 1
 
--- what follows from the number in a field, or what is wrong with the field, by its place in the line, from 1
-unfoldable pub number_in : ℕ → Field → (ℕ → Found) → Found
-number_in place Empty next = NoNumber place
-number_in place (Number n) next = next n
-number_in place Over next = TooLarge place
-number_in place Other next = NoNumber place
+-- the number in a field, or what is wrong with the field, by its place in the line, from 1
+unfoldable pub number_in : ℕ → Field → Result ℕ Fault
+number_in place Empty = Err (NoNumber place)
+number_in place (Number n) = Ok n
+number_in place Over = Err (TooLarge place)
+number_in place Other = Err (NoNumber place)
 
-unfoldable pub from_second : Line → ℕ → Found
-from_second line a = number_in 2 line.second (Row a)
+-- a row of two numbers, or what is wrong with the first of them that is none
+unfoldable pub row_of : Result ℕ Fault → Result ℕ Fault → Found
+row_of (Err fault) second = Err fault
+row_of (Ok a) (Err fault) = Err fault
+row_of (Ok a) (Ok b) = row a b
 
 -- the numbers of a line, or what is wrong with the first field that has none
 unfoldable pub numbers : Line → Found
-numbers line = number_in 1 line.first (from_second line)
+numbers line = row_of (number_in 1 line.first) (number_in 2 line.second)
 
 -- the first line is the heading, and any other has as many fields as it should, each a number
 unfoldable pub shown : ℕ → Line → Found
 shown lines line =
     cond (eqb lines 0) (heading_shown line.agreed)
-    (cond (eqb line.commas wanted_commas) (numbers line) WrongCount)
+    (cond (eqb line.commas wanted_commas) (numbers line) (Err WrongCount))
 
 -- ── a file ──
 
 abbrev pub unread : Scan
-unread = record { lines = 0; inside = false; line = empty_line; found = Nothing }
+unread = record { lines = 0; inside = false; line = empty_line; found = nothing }
 
 -- something is wrong with the line
 abbrev pub wrong : Found → Bool
-wrong Nothing = false
-wrong (Row a b) = false
-wrong NoEnd = true
-wrong WrongHeading = true
-wrong WrongCount = true
-wrong (NoNumber place) = true
-wrong (TooLarge place) = true
+wrong found = is_err found
 
 -- good lines are counted, up to 2 ^ 63
 unfoldable pub lines_after : ℕ → Found → ℕ
@@ -165,15 +171,19 @@ ended scan =
 
 unfoldable pub within : Scan → ℕ → Scan
 within scan byte =
-    record { lines = scan.lines; inside = true; line = longer scan.line byte; found = Nothing }
+    record { lines = scan.lines; inside = true; line = longer scan.line byte; found = nothing }
 
 -- one byte more is read; once something is wrong, no byte changes that
 unfoldable pub after : Scan → ℕ → Scan
 after scan byte = cond (wrong scan.found) scan (cond (eqb byte line_feed) (ended scan) (within scan byte))
 
--- what is found when the file ends: it may not end within a line, and it has a heading
-unfoldable pub at_end : Scan → Found
-at_end scan = cond (wrong scan.found) scan.found (cond scan.inside NoEnd (cond (eqb scan.lines 0) WrongHeading Nothing))
+-- a file may not end within a line, and it has a heading
+abbrev pub unended : Scan → Result (Unit {0}) Fault
+unended scan = cond scan.inside (Err NoEnd) (cond (eqb scan.lines 0) (Err WrongHeading) (Ok tt))
+
+-- what is wrong when the file ends
+unfoldable pub at_end : Scan → Result (Unit {0}) Fault
+at_end scan = elim scan.found [ Ok row ↦ unended scan | Err fault ↦ Err fault ]
 
 -- all the bytes of a file are read
 unfoldable pub after_all : Scan → List ℕ → Scan

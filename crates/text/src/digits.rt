@@ -5,52 +5,47 @@ ghost use Rattle.text.specs.Stated.{Numbers};
 
 use crate::Field;
 
-// The largest number that a field may hold.
-const MOST: u64 = u32::MAX as u64;
-
 // The field that all these bytes make.
+#[tactic(auto, unfolding(crate::specs::Reading::with_bytes, crate::specs::Reading::field_of))]
 pub fn number(bytes: &[u8]) -> Field
     ensures { Numbers bytes.now result }
 {
     let mut field = Field::Empty;
-    let mut i = 0;
-    while i < bytes.len() {
-        field = with_byte(field, bytes[i]);
-        i += 1;
+    for byte in bytes {
+        field = field.with_byte(*byte);
     }
     field
 }
 
-// The field with one byte more.
-pub fn with_byte(field: Field, byte: u8) -> Field
-    ensures { result ≡ reading.with_byte field byte }
-{
-    if byte < 48 {
-        return Field::Other;
+impl Field {
+    // The field with one byte more.
+    #[tactic(auto, unfolding(crate::specs::Reading::with_byte))]
+    pub fn with_byte(self, byte: u8) -> Field
+        ensures { result ≡ reading.with_byte self byte }
+    {
+        match byte {
+            b'0'..=b'9' => self.with_digit(byte - b'0'),
+            _ => Field::Other,
+        }
     }
-    if 57 < byte {
-        return Field::Other;
-    }
-    with_digit(field, byte - 48)
-}
 
-fn with_digit(field: Field, digit: u8) -> Field
-    ensures { result ≡ reading.with_digit field digit }
-{
-    match field {
-        Field::Empty => Field::Number(digit as u32),
-        Field::Number(n) => number_or_over(n as u64 * 10 + digit as u64),
-        Field::Over => Field::Over,
-        Field::Other => Field::Other,
+    #[tactic(auto, unfolding(crate::specs::Reading::with_digit))]
+    fn with_digit(self, digit: u8) -> Field
+        ensures { result ≡ reading.with_digit self digit }
+    {
+        match self {
+            Field::Empty => Field::Number(digit as u32),
+            Field::Number(n) => number_or_over(n as u64 * 10 + digit as u64),
+            Field::Over | Field::Other => self,
+        }
     }
 }
 
 fn number_or_over(n: u64) -> Field
     ensures { result ≡ reading.number_or_over n }
 {
-    if n <= MOST {
-        Field::Number(n as u32)
-    } else {
-        Field::Over
+    match u32::try_from(n) {
+        Ok(n) => Field::Number(n),
+        Err(_) => Field::Over,
     }
 }

@@ -1,18 +1,15 @@
 // The heading.
-ghost use Rattle.std.specs.Prelude.{◌≡◌, get_or};
+ghost use Rattle.std.specs.Prelude.{◌≡◌};
 ghost use Rattle.text.specs.Reading as reading;
 
-// How many bytes the heading has.
-pub const SIZE: u32 = 12;
+pub const HEADING: [u8; 12] = *b"class,length";
 
-// The heading's byte at this place, 0 past its end.
-pub fn byte_at(place: u32) -> u8
-    ensures { result ≡ get_or reading.heading place 0 }
+// How many bytes of the heading a line has with one byte more; none where it is no start of the heading.
+#[tactic(auto, unfolding(crate::specs::Reading::agreed_with, crate::specs::Reading::heading))]
+pub fn agreed_with(agreed: Option<usize>, byte: u8) -> Option<usize>
+    ensures { result ≡ reading.agreed_with agreed byte }
 {
-    let heading = *b"class,length";
-    if place < SIZE {
-        let at = place as usize;
-        return heading[at];
-    }
-    0
+    let read = agreed?;
+    let due = HEADING.get(read)?;
+    if *due == byte { Some(read + 1) } else { None }
 }

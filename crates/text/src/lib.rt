@@ -7,7 +7,6 @@ mod heading;
 mod lines;
 mod shown;
 
-pub use bytes::{begin, feed, finish, wrong};
 pub use digits::number;
 
 // A field as far as it is read: nothing yet, a number, digits that come to more than a number may be, or something else.
@@ -23,19 +22,23 @@ pub enum Field {
 // or more; the first two fields; and whether a CR was read last, which is part of the line only if no LF follows.
 #[derive(Clone, Copy)]
 pub struct Line {
-    pub agreed: u32,
+    pub agreed: Option<usize>,
     pub commas: u32,
     pub first: Field,
     pub second: Field,
     pub held: bool,
 }
 
-// What the byte read last has shown: nothing, a whole line of numbers, or what is wrong with the line, and in which field,
-// from 1.
+// The numbers of a whole line.
 #[derive(Clone, Copy)]
-pub enum Found {
-    Nothing,
-    Row { first: u32, second: u32 },
+pub struct Row {
+    pub first: u32,
+    pub second: u32,
+}
+
+// What is wrong with a line, and in which field, from 1.
+#[derive(Clone, Copy)]
+pub enum Fault {
     NoEnd,
     WrongHeading,
     WrongCount,
@@ -43,11 +46,12 @@ pub enum Found {
     TooLarge(u32),
 }
 
-// A file as far as it is read: its good lines that have ended, whether it stands within a line, and that line.
+// A file as far as it is read: its good lines that have ended, whether it stands within a line, that line, and what the byte read
+// last has shown: nothing, a whole line of numbers, or what is wrong with the line.
 #[derive(Clone, Copy)]
 pub struct Scan {
     pub lines: u64,
     pub inside: bool,
     pub line: Line,
-    pub found: Found,
+    pub found: Result<Option<Row>, Fault>,
 }

@@ -12,19 +12,19 @@ pub fn count_records(classes: &[u32], records: &mut [u32])
     ensures { Counts classes.now records.old records.new }
 {
     let mut arrived = 0;
-    let mut i = 0;
-    while i < classes.len() {
+    for (i, class) in classes.iter().enumerate() {
         records[i] = arrived;
-        arrived = arrived_after(arrived, classes[i]);
-        i += 1;
+        arrived = arrived_after(arrived, *class);
     }
-    records[i] = arrived;
+    records[classes.len()] = arrived;
 }
 
 // How many packets have arrived after an event for this class.
+#[tactic(auto, using(crate::proofs::Arrivals::none_arrives, crate::proofs::Arrivals::one_arrives))]
 fn arrived_after(arrived: u32, class: u32) -> u32
     requires { suc arrived < 2 ^ 32 }
-    ensures { ((length : ℕ) → result ≡ arrived + one_arrival (decode class length)) × (result ≤ suc arrived) }
+    ensures counted { (length : ℕ) → result ≡ arrived + one_arrival (decode class length) }
+    ensures most { result ≤ suc arrived }
 {
     if class == 0 {
         return arrived;
@@ -37,9 +37,5 @@ pub fn record_at(records: &[u32], places: usize, place: u32) -> u32
     requires { places < length records.now }
     ensures { result ≡ get_or records.now (min place places) 0 }
 {
-    let at = wide(place);
-    if at < places {
-        return records[at];
-    }
-    records[places]
+    records[wide(place).min(places)]
 }

@@ -19,8 +19,8 @@ use counting::record_at;
 use lines::{put_end, put_field};
 use listing::sending;
 use moments::arrived_at;
-use output::{put_number, put_text, put_then};
-use words::{larger, word};
+use output::Page;
+use words::word;
 
 // Packets whose lines are put at a time, at most.
 pub const MOST_PACKETS: usize = 512;
@@ -31,107 +31,81 @@ pub const PACKETS_BYTES: usize = 148 * MOST_PACKETS;
 // The latest moment from which lines can be put: with all that is added to it 64 bits hold it.
 pub const MOST_FREE: u64 = 4611686018427387904;
 
-// What is put so far: how much of the page is used, and when the line is free again.
+// What is known of packets: when each arrived, the list of events that they made with the record of each of its places, and the rate
+// of their line.
 #[derive(Clone, Copy)]
-pub struct Put {
-    pub used: usize,
-    pub free: u64,
+pub struct Packets<'a> {
+    pub stamps: &'a [u64],
+    pub classes: &'a [u32],
+    pub lengths: &'a [u32],
+    pub records: &'a [u32],
+    pub rate: u32,
 }
 
-pub fn put_heading(page: &mut [u8], used: usize) -> usize
-    ensures { Puts (packet_heading ++ line_end) page.old used page.new result }
+pub fn put_heading<const N: usize>(page: &mut Page<N>)
+    ensures { Puts (packet_heading ++ line_end) page.old page.new }
 {
-    let used = put_text(
-        page,
-        used,
-        b"packet,record,class,length,arrived,sent,finished",
-    );
-    put_end(page, used)
+    page.put_text(b"packet,record,class,length,arrived,sent,finished");
+    put_end(page);
 }
 
-// The lines of some packets, one sent after the other, where the line is free from a moment on.
-pub fn put_packets(
-    page: &mut [u8],
-    used: usize,
-    stamps: &[u64],
-    classes: &[u32],
-    lengths: &[u32],
-    records: &[u32],
-    rate: u32,
-    free: u64,
-    order: &[u32],
-) -> Put
-    requires { (length classes.now < length records.now) × Recorded classes.now records.now × Stamped stamps.now
-        × (free ≤ most_free) × (length order.now ≤ most_packets) }
-    ensures { Puts (packet_lines stamps.now rate (events_of classes.now lengths.now) free order.now)
-        page.old used page.new result.used
-        × (result.free ≡ free_through stamps.now rate (events_of classes.now lengths.now) free order.now) }
-{
-    let mut put = Put { used, free };
-    let mut k = 0;
-    while k < order.len() {
-        put = put_packet(page, put, stamps, classes, lengths, records, rate, order[k]);
-        k += 1;
+impl<'a> Packets<'a> {
+    // The lines of some of them, one sent after the other, where the line is free from a moment on; and when it is free again.
+    pub fn put_packets<const N: usize>(self, page: &mut Page<N>, free: u64, order: &[u32]) -> u64
+        requires { (length self.classes.now < length self.records.now) × Recorded self.classes.now self.records.now × Stamped self.stamps.now
+            × (free ≤ most_free) × (length order.now ≤ most_packets) }
+        ensures lines { Puts (packet_lines self.entry.stamps.now self.entry.rate (events_of self.entry.classes.now self.entry.lengths.now) free order.now)
+            page.old page.new }
+        ensures free { result ≡ free_through self.entry.stamps.now self.entry.rate (events_of self.entry.classes.now self.entry.lengths.now) free order.now }
+    {
+        let mut now_free = free;
+        for place in order {
+            now_free = self.put_packet(page, now_free, *place);
+        }
+        now_free
     }
-    put
-}
 
-// One packet more.
-fn put_packet(
-    page: &mut [u8],
-    put: Put,
-    stamps: &[u64],
-    classes: &[u32],
-    lengths: &[u32],
-    records: &[u32],
-    rate: u32,
-    place: u32,
-) -> Put
-    requires { (length classes.now < length records.now) × Recorded classes.now records.now × Stamped stamps.now
-        × (put.free ≤ 2 ^ 63) }
-    ensures { Puts (packet_line stamps.now rate (events_of classes.now lengths.now) put.free place)
-        page.old put.used page.new result.used
-        × (result.free ≡ free_after stamps.now rate (events_of classes.now lengths.now) put.free place)
-        × (result.free ≤ max put.free most_stamp + 2 ^ 52) }
-{
-    let record = record_at(records, classes.len(), place);
-    let class = word(classes, place);
-    let length = word(lengths, place);
-    let arrived = arrived_at(stamps, record);
-    let sent = larger(put.free, arrived);
-    let free = sent + sending(rate, length);
-    let used = put_names(page, put.used, place, record, class, length);
-    Put {
-        used: put_moments(page, used, arrived, sent, free),
-        free,
+    // One packet more.
+    fn put_packet<const N: usize>(self, page: &mut Page<N>, free: u64, place: u32) -> u64
+        requires { (length self.classes.now < length self.records.now) × Recorded self.classes.now self.records.now × Stamped self.stamps.now
+            × (free ≤ 2 ^ 63) }
+        ensures line { Puts (packet_line self.entry.stamps.now self.entry.rate (events_of self.entry.classes.now self.entry.lengths.now) free place)
+            page.old page.new }
+        ensures free { result ≡ free_after self.entry.stamps.now self.entry.rate (events_of self.entry.classes.now self.entry.lengths.now) free place }
+        ensures most { result ≤ max free most_stamp + 2 ^ 52 }
+    {
+        let record = record_at(self.records, self.classes.len(), place);
+        let class = word(self.classes, place);
+        let length = word(self.lengths, place);
+        let arrived = arrived_at(self.stamps, record);
+        let sent = free.max(arrived);
+        let finished = sent + sending(self.rate, length);
+        put_names(page, place, record, class, length);
+        put_moments(page, arrived, sent, finished);
+        finished
     }
 }
 
 // Four words, a comma after each.
-fn put_names(
-    page: &mut [u8],
-    used: usize,
-    place: u32,
-    record: u32,
-    class: u32,
-    length: u32,
-) -> usize
+#[tactic(auto, using(output::proofs::Pages::then, crate::proofs::Lines::names_parts))]
+fn put_names<const N: usize>(page: &mut Page<N>, place: u32, record: u32, class: u32, length: u32)
     ensures { Puts (decimal place ++ comma ∷ decimal «record» ++ comma ∷ decimal class ++ comma ∷ decimal length ++ comma ∷ [])
-        page.old used page.new result }
+        page.old page.new }
 {
-    let used = put_then(page, used, place, 44);
-    let used = put_then(page, used, record, 44);
-    let used = put_then(page, used, class, 44);
-    put_then(page, used, length, 44)
+    page.put_then(place, b',');
+    page.put_then(record, b',');
+    page.put_then(class, b',');
+    page.put_then(length, b',');
 }
 
 // Three moments, and the end of their line.
-fn put_moments(page: &mut [u8], used: usize, arrived: u64, sent: u64, finished: u64) -> usize
+#[tactic(auto, using(output::proofs::Pages::then, crate::proofs::Lines::moments_parts))]
+fn put_moments<const N: usize>(page: &mut Page<N>, arrived: u64, sent: u64, finished: u64)
     ensures { Puts (decimal arrived ++ comma ∷ decimal sent ++ comma ∷ decimal finished ++ line_end)
-        page.old used page.new result }
+        page.old page.new }
 {
-    let used = put_field(page, used, arrived);
-    let used = put_field(page, used, sent);
-    let used = put_number(page, used, finished);
-    put_end(page, used)
+    put_field(page, arrived);
+    put_field(page, sent);
+    page.put_number(finished);
+    put_end(page);
 }

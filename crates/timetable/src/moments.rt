@@ -9,9 +9,5 @@ pub fn arrived_at(stamps: &[u64], record: u32) -> u64
     ensures { result ≡ get_or stamps.now «record» 0 - get_or stamps.now 0 0 }
 {
     let first = stamp_of(stamps, 0);
-    let stamp = stamp_of(stamps, wide(record));
-    if stamp < first {
-        return 0;
-    }
-    stamp - first
+    stamp_of(stamps, wide(record)).saturating_sub(first)
 }

@@ -12,6 +12,7 @@ use input::{MOST_ROWS, RowLongs};
 use rules::Choice;
 
 // Whether k is a child, not 0, and its start is at most v.
+#[tactic(auto, unfolding(crate::specs::Waiting::started))]
 fn started(starts: &RowLongs, v: u64, k: u8) -> bool
     ensures { result ≡ started starts.now v k }
 {
@@ -19,6 +20,7 @@ fn started(starts: &RowLongs, v: u64, k: u8) -> bool
 }
 
 // The first of p's children that wait for their start becomes eligible.
+#[tactic(auto, unfolding(crate::specs::Waiting::ripens))]
 fn ripen_one(rows: &RowArrays, heaps: &mut Heaps, p: usize)
     requires { p < most_rows }
     ensures { forest_in heaps.new
@@ -43,6 +45,7 @@ fn ripen(rows: &RowArrays, heaps: &mut Heaps, p: usize, v: u64)
 }
 
 // v or the start of k, whichever is later; v where k is 0.
+#[tactic(auto, unfolding(crate::specs::Waiting::later))]
 fn later(starts: &RowLongs, v: u64, k: u8) -> u64
     ensures { result ≡ later starts.now v k }
 {
@@ -50,6 +53,7 @@ fn later(starts: &RowLongs, v: u64, k: u8) -> u64
 }
 
 // The virtual time v of p, raised to the least start among its children where none is eligible.
+#[tactic(auto, unfolding(crate::specs::Waiting::time_of))]
 fn raise(rows: &RowArrays, heaps: &Heaps, p: usize, v: u64) -> u64
     requires { p < most_rows }
     ensures { result ≡ time_of rows.now.starts p v (forest_in heaps.now) }
@@ -61,6 +65,7 @@ fn raise(rows: &RowArrays, heaps: &Heaps, p: usize, v: u64) -> u64
 }
 
 // Row p, whose virtual time is v, chooses: its time is raised, all that have started by then become eligible, and the first of them leaves.
+#[tactic(auto, using(crate::proofs::Turns::ready_at), unfolding(crate::specs::Waiting::child_of, crate::specs::Waiting::rest_of))]
 pub fn choose(rows: &RowArrays, heaps: &mut Heaps, p: usize, v: u64) -> Choice
     requires { p < most_rows }
     ensures child { result.child
@@ -76,6 +81,7 @@ pub fn choose(rows: &RowArrays, heaps: &mut Heaps, p: usize, v: u64) -> Choice
 }
 
 // Child x of row p, which is in no heap, is added: it is eligible if its start is at most v, else it waits for it.
+#[tactic(auto, unfolding(crate::specs::Waiting::added))]
 pub fn add(rows: &RowArrays, heaps: &mut Heaps, p: usize, v: u64, x: u8)
     requires { p < most_rows }
     ensures { forest_in heaps.new

@@ -27,5 +27,9 @@ pub fn larger(a: u64, b: u64) -> u64
 pub fn word(words: &[u32], place: u32) -> u32
     ensures { result ≡ get_or words.now place 0 }
 {
-    words.get(place as usize).copied().unwrap_or(0)
+    let at = place as usize;
+    if at < words.len() {
+        return words[at];
+    }
+    0
 }

@@ -1,4 +1,4 @@
--- `csv::lines::put_answer` meets its contract: its parts one after the other.
+-- `lines::put_answer` meets its contract: its parts one after the other.
 -- Assumes nothing.
 use mathlib.Core.Path.{ap, ◌∙◌}
 use Rattle.output.specs.Quoted.{bytes_of}
@@ -10,8 +10,9 @@ use Rattle.lines.proofs.put_answer.Goals as goal
 
 pub returns : goal.returns
 unfolding answer_heading bytes_of
-returns c =
-    then _ _ _ c.put_text-used.ensures (then _ _ _ c.put_end-used.ensures (then _ _ _ c.put_then-used.ensures
-    (then _ _ _ c.put_then-used-2.ensures (then _ _ _ c.put_then-used-3.ensures (then _ _ _ c.put_word-last.ensures
-    c.put_end.ensures)))))
-    ∙ ap (with_text _) (answer_parts _)
+returns g c =
+    rw (← c.numbers_of-answer.ensures)
+    (then _ _ _ c.put_text.ensures (then _ _ _ c.put_end.ensures (then _ _ _ c.put_then.ensures
+    (then _ _ _ c.put_then-2.ensures (then _ _ _ c.put_then-3.ensures (then _ _ _ c.put_word.ensures
+    c.put_end-2.ensures)))))
+    ∙ ap (with_text _) (answer_parts _))

@@ -1,4 +1,4 @@
--- `put_live_heading` meets its contract: the names, and the end of their line.
+-- `lines::put_live_heading` meets its contract: the names, and the end of their line.
 -- Assumes nothing.
 use borrow.Author.Rules.{rules}
 use Rattle.output.specs.Quoted.{bytes_of}
@@ -8,4 +8,4 @@ use Rattle.lines.proofs.put_live_heading.Goals as goal
 
 pub returns : goal.returns
 unfolding live_heading bytes_of
-returns c = search (rules, then)
+returns g c = search (rules, then)

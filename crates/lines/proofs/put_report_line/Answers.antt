@@ -1,4 +1,4 @@
--- `csv::lines::put_report_line` meets its contract: its parts one after the other.
+-- `lines::put_report_line` meets its contract: its parts one after the other.
 -- Assumes nothing.
 use mathlib.Core.Path.{◌≡◌, ap, ◌∙◌}
 use mir.Syntax.{w64}
@@ -10,7 +10,7 @@ use Rattle.lines.proofs.Parts.{report_parts}
 use Rattle.lines.proofs.put_report_line.Goals as goal
 
 pub returns : goal.returns
-returns c =
+returns g c =
     let same : to_z w64 (of_z w64 c.args.lag) ≡ c.args.lag = to_z-of_z w64 c.args.lag c.ranges.lag in
-    then _ _ _ c.put_then-used.ensures (then _ _ _ c.put_fields-used.ensures (then _ _ _ (rw same at c.put_signed-used.ensures) c.put_end.ensures))
+    then _ _ _ c.put_then.ensures (then _ _ _ c.put_fields.ensures (then _ _ _ (rw same at c.put_signed.ensures) c.put_end.ensures))
     ∙ ap (with_text _) (report_parts _ _ _)

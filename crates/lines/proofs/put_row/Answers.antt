@@ -1,4 +1,4 @@
--- `csv::lines::put_row` meets its contract: its parts one after the other.
+-- `lines::put_row` meets its contract: its parts one after the other.
 -- Assumes nothing.
 use mathlib.Core.Path.{ap, ◌∙◌}
 use Rattle.output.specs.Pages.{with_text}
@@ -7,6 +7,6 @@ use Rattle.output.proofs.Pages.{then}
 use Rattle.lines.proofs.put_row.Goals as goal
 
 pub returns : goal.returns
-returns c =
-    then _ _ _ c.put_then-used.ensures (then _ _ _ c.put_then-used-2.ensures (then _ _ _ c.put_word-used.ensures c.put_end.ensures))
+returns g c =
+    then _ _ _ c.put_then.ensures (then _ _ _ c.put_then-2.ensures (then _ _ _ c.put_word.ensures c.put_end.ensures))
     ∙ ap (with_text _) (row_parts _ _ _)

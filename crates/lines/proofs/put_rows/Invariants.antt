@@ -1,16 +1,8 @@
--- `csv::lines::put_rows` meets its contract. The loop's invariant: the lines of the rows passed are put.
--- Assumes nothing.
-use Prim.Native.Nat.{◌≤◌, ◌-◌}
-use mathlib.Core.Path.{◌≡◌}
-use lib.ListN.{length}
+-- The invariant of the loop of `lines::put_rows`: the lines of the rows passed are put.
 use Rattle.output.specs.Pages.{Puts}
 use Rattle.forms.specs.Texts.{row_lines}
 use Rattle.input.specs.Lent.{table_of}
 use Rattle.lines.proofs.put_rows.Given as goal
 
 abbrev pub invariant-loop-r : goal.invariant-loop-r
-invariant-loop-r l =
-    (l.r ≤ length l.identifiers) × Puts (row_lines (table_of l.identifiers l.parents l.shares) l.r) l.initial.page l.used-2 l.page l.used × (length l.page ≡ length l.initial.page)
-
-abbrev pub decreases-loop-r : goal.decreases-loop-r
-decreases-loop-r l = length l.identifiers - l.r
+invariant-loop-r g l = Puts (row_lines (table_of l.identifiers l.parents l.shares) l.r) l.initial.page l.page

@@ -1,4 +1,4 @@
--- `csv::lines::put_table` meets its contract: the heading, its end, the rows.
+-- `lines::put_table` meets its contract: the heading, its end, the rows.
 -- Assumes nothing.
 use Rattle.output.specs.Quoted.{bytes_of}
 use Rattle.forms.specs.Texts.{table_text}
@@ -8,5 +8,5 @@ use Rattle.lines.proofs.put_table.Goals as goal
 
 pub returns : goal.returns
 unfolding table_text table_heading bytes_of
-returns c =
-    then _ _ _ c.put_text-used.ensures (then _ _ _ c.put_end-used.ensures c.put_rows.ensures)
+returns g c =
+    then _ _ _ c.put_text.ensures (then _ _ _ c.put_end.ensures c.put_rows.ensures)

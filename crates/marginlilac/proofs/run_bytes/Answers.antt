@@ -5,26 +5,27 @@ use native.Mathlib.Omega.{arith}
 use Rattle.marginlilac.specs.Exported.{LentBytes, lent_bytes, spare_of, untouched}
 use Rattle.marginlilac.specs.Held.{Bytes}
 use Rattle.marginlilac.proofs.Writing.{refused_bytes}
-use Rattle.marginlilac.proofs.Exporting.{part_words, part_answer, whole_words, slices, lengths_are, unfit_is}
+use Rattle.marginlilac.proofs.Exporting.{part_words, part_answer, whole_words, slices, lengths_fine, unfit_is}
 use Rattle.marginlilac.proofs.run_bytes.Goals as goal
 
 -- ── what is lent ──
 
 pub returns-then-over-ne0 : goal.returns-then-over-ne0
 unfolding untouched
-returns-then-over-ne0 c =
+returns-then-over-ne0 g c =
     let lent : LentBytes = lent_bytes c.args.identifiers.now c.args.parents.now c.args.shares.now c.args.classes.now c.args.lengths.now
-    c.args.order.now c.args.report.now c.args.lags.now c.args.working.now c.args.answer.now in part_words lent (rw c.spare-over.ensures at c.if-over-ne0.true)
+    c.args.order.now c.args.report.now c.args.lags.now c.args.working.now c.args.answer.now in
+    part_words lent (rw c.spare-over.ensures at c.if-over-ne0.true)
 
 pub returns-then-answer-ne16 : goal.returns-then-answer-ne16
 unfolding untouched
-returns-then-answer-ne16 c =
+returns-then-answer-ne16 g c =
     let lent : LentBytes = lent_bytes c.args.identifiers.now c.args.parents.now c.args.shares.now c.args.classes.now c.args.lengths.now
     c.args.order.now c.args.report.now c.args.lags.now c.args.working.now c.args.answer.now in
     part_answer lent (rw c.spare-over.ensures at c.if-over-ne0.false) c.if-answer-ne16.true
 
-pub returns-then-unfit-ne0 : goal.returns-then-unfit-ne0
-returns-then-unfit-ne0 c =
+pub returns-in-Err : goal.returns-in-Err
+returns-in-Err g c =
     let lent : LentBytes = lent_bytes c.args.identifiers.now c.args.parents.now c.args.shares.now c.args.classes.now c.args.lengths.now
     c.args.order.now c.args.report.now c.args.lags.now c.args.working.now c.args.answer.now in
     let bytes : Bytes lent = record {
@@ -33,13 +34,13 @@ returns-then-unfit-ne0 c =
       lags = λ i. omega (arith, c.slice_known-3-1.given i);
       working = λ i. omega (arith, c.slice_known-4-1.given i);
     } in
-    let none_spare : spare_of lent ≡ 0 = rw c.spare-over.ensures at c.if-over-ne0.false in let l = lent in let unfit = c.check_counts-unfit.result in
-    let refused = unfit_is l unfit (c.check_counts-unfit.ensures _ _ (slices l)) c.if-unfit-ne0.true in
-    rw c.write_answer.ensures
-    (refused_bytes l none_spare bytes unfit refused c.if-unfit-ne0.true ∙ whole_words l none_spare c.if-answer-ne16.false)
+    let none_spare : spare_of lent ≡ 0 = rw c.spare-over.ensures at c.if-over-ne0.false in
+    rw (c.write_answer.ensures.0, c.write_answer.ensures.1)
+    (refused_bytes lent none_spare bytes c.in-Err.refusal (unfit_is lent c.in-Err.refusal (c.in-Err.ensures _ _ (slices lent)))
+    ∙ whole_words lent none_spare c.if-answer-ne16.false)
 
 pub run_written-requires : goal.run_written-requires
-run_written-requires c =
+run_written-requires g c =
     let lent : LentBytes = lent_bytes c.args.identifiers.now c.args.parents.now c.args.shares.now c.args.classes.now c.args.lengths.now
     c.args.order.now c.args.report.now c.args.lags.now c.args.working.now c.args.answer.now in
     let bytes : Bytes lent = record {
@@ -48,15 +49,15 @@ run_written-requires c =
       lags = λ i. omega (arith, c.slice_known-3-1.given i);
       working = λ i. omega (arith, c.slice_known-4-1.given i);
     } in
-    let none_spare : spare_of lent ≡ 0 = rw c.spare-over.ensures at c.if-over-ne0.false in let l = lent in record {
+    record {
       bytes = bytes;
-      none_spare = none_spare;
+      none_spare = rw c.spare-over.ensures at c.if-over-ne0.false;
       four_words = c.if-answer-ne16.false;
-      fine = rw (lengths_are l c.check_counts-unfit.result (c.check_counts-unfit.ensures _ _ (slices l))) at c.if-unfit-ne0.false;
+      fine = lengths_fine lent (c.in_default.ensures _ _ (slices lent)).0;
     }
 
 pub returns : goal.returns
-returns c =
+returns g c =
     let lent : LentBytes = lent_bytes c.args.identifiers.now c.args.parents.now c.args.shares.now c.args.classes.now c.args.lengths.now
     c.args.order.now c.args.report.now c.args.lags.now c.args.working.now c.args.answer.now in
-    let none_spare : spare_of lent ≡ 0 = rw c.spare-over.ensures at c.if-over-ne0.false in c.run_written.ensures ∙ whole_words lent none_spare c.if-answer-ne16.false
+    c.run_written.ensures ∙ whole_words lent (rw c.spare-over.ensures at c.if-over-ne0.false) c.if-answer-ne16.false

@@ -4,22 +4,22 @@ use Rattle.marginlilac.proofs.Reading.{words_are, words_many}
 use Rattle.marginlilac.proofs.run_read.Goals as goal
 
 pub slice_bounds-run-end : goal.slice_bounds-run-end
-slice_bounds-run-end c = words_many _ _ _ c.read_words.ensures
+slice_bounds-run-end g c = words_many _ _ _ c.read_words.ensures
 
 pub slice_bounds-run-end-2 : goal.slice_bounds-run-end-2
-slice_bounds-run-end-2 c = words_many _ _ _ c.read_words-2.ensures
+slice_bounds-run-end-2 g c = words_many _ _ _ c.read_words-2.ensures
 
 pub slice_bounds-run-end-3 : goal.slice_bounds-run-end-3
-slice_bounds-run-end-3 c = words_many _ _ _ c.read_words-3.ensures
+slice_bounds-run-end-3 g c = words_many _ _ _ c.read_words-3.ensures
 
 pub slice_bounds-run-end-4 : goal.slice_bounds-run-end-4
-slice_bounds-run-end-4 c = words_many _ _ _ c.read_words-4.ensures
+slice_bounds-run-end-4 g c = words_many _ _ _ c.read_words-4.ensures
 
 pub slice_bounds-run-end-5 : goal.slice_bounds-run-end-5
-slice_bounds-run-end-5 c = words_many _ _ _ c.read_words-5.ensures
+slice_bounds-run-end-5 g c = words_many _ _ _ c.read_words-5.ensures
 
-pub returns : goal.returns
-returns c =
+pub returns-clause-ran : goal.returns-clause-ran
+returns-clause-ran g c =
     rw (
       words_are _ _ _ c.read_words.ensures,
       words_are _ _ _ c.read_words-2.ensures,
@@ -27,4 +27,4 @@ returns c =
       words_are _ _ _ c.read_words-4.ensures,
       words_are _ _ _ c.read_words-5.ensures,
     )
-    at c.run.ensures
+    at c.run.ensures.ran

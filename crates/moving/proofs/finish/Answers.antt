@@ -1,71 +1,49 @@
 -- `moving::finish` meets its contract: the list of children, the departure before the way up, the way up and what goes on the line are the event.
 -- Assumes nothing.
 use Prim.Native.Nat.{ℕ}
-use lib.ListN.{length-replicate}
 use native.Mathlib.Omega.{arith}
-use Rattle.input.specs.Classes.{Tree}
-use Rattle.input.specs.Lent.{tree_with}
-use Rattle.rules.specs.Box.{Rows, left}
-use Rattle.heaps.specs.Sizes.{most_heaps, most_members}
-use Rattle.arrays.specs.Arrays.{rows_of}
-use Rattle.moving.specs.Arrays.{Arrays, Finishes}
+use Rattle.rules.specs.Box.{left}
 use Rattle.moving.proofs.Finishing.{ready, class_few, onward_climbs, onward_leeway, finished}
 use Rattle.moving.proofs.finish.Goals as goal
 
--- ── what is lent ──
-
-pub list_children-requires : goal.list_children-requires
-list_children-requires c =
-    let tree : Tree = tree_with c.args.rows c.requires.0 c.args.parents.now c.args.depths.now c.args.shares.now in
-    let able : Finishes tree c.requires.3 c.args.next c.args.size c.requires.4 = c.requires.5 in let sound = able.able.sound in record { rows_nonzero = sound.some_rows; rows_le_most_rows = sound.few_rows; inside = able.able.ready.inside; firsts_len = length-replicate {A = ℕ} most_heaps 0; listed_len = length-replicate {A = ℕ} most_members 0 }
+pub list_children-finding-requires : goal.list_children-finding-requires
+list_children-finding-requires c =
+    let able = c.requires.3.able in
+    record { count_nonzero = able.sound.some_rows; count_le_most_rows = able.sound.few_rows; inside = able.ready.inside }
 
 pub depart-class-requires : goal.depart-class-requires
 depart-class-requires c =
-    let tree : Tree = tree_with c.args.rows c.requires.0 c.args.parents.now c.args.depths.now c.args.shares.now in
-    let rows : Rows = rows_of c.args.starts.now c.args.finishes.now c.args.virtuals.now c.args.heads.now c.args.head_lengths.now
-    c.args.head_classes.now in
-    let able : Finishes tree c.requires.3 c.args.next c.args.size c.requires.4 = c.requires.5 in
-    let arrays : Arrays c.requires.4 rows c.args.bytes.now c.args.held.now c.requires.1 c.requires.2 = c.requires.6 in record { ready = ready able arrays; class_is_row = class_few able arrays; length_allowed = able.few_bytes }
+    let able = c.requires.3 in
+    let arrays = c.requires.4 in
+    record { ready = ready able arrays; class_is_row = class_few able arrays; length_allowed = able.few_bytes }
 
-pub offset_bounds-depths-class : goal.offset_bounds-depths-class
-offset_bounds-depths-class c =
-    let tree : Tree = tree_with c.args.rows c.requires.0 c.args.parents.now c.args.depths.now c.args.shares.now in
-    let rows : Rows = rows_of c.args.starts.now c.args.finishes.now c.args.virtuals.now c.args.heads.now c.args.head_lengths.now
-    c.args.head_classes.now in
-    let able : Finishes tree c.requires.3 c.args.next c.args.size c.requires.4 = c.requires.5 in
-    let arrays : Arrays c.requires.4 rows c.args.bytes.now c.args.held.now c.requires.1 c.requires.2 = c.requires.6 in omega (arith, c.depart-class.ensures.class_sent, class_few able arrays)
+pub offset_bounds-tree-class : goal.offset_bounds-tree-class
+offset_bounds-tree-class c = omega (arith, c.depart-class.ensures.class_sent, class_few c.requires.3 c.requires.4)
 
-pub bounds-depths-class : goal.bounds-depths-class
-bounds-depths-class c =
-    let tree : Tree = tree_with c.args.rows c.requires.0 c.args.parents.now c.args.depths.now c.args.shares.now in
-    let rows : Rows = rows_of c.args.starts.now c.args.finishes.now c.args.virtuals.now c.args.heads.now c.args.head_lengths.now
-    c.args.head_classes.now in
-    let able : Finishes tree c.requires.3 c.args.next c.args.size c.requires.4 = c.requires.5 in
-    let arrays : Arrays c.requires.4 rows c.args.bytes.now c.args.held.now c.requires.1 c.requires.2 = c.requires.6 in omega (arith, c.depart-class.ensures.class_sent, class_few able arrays)
+pub bounds-tree-class : goal.bounds-tree-class
+bounds-tree-class c = omega (arith, c.depart-class.ensures.class_sent, class_few c.requires.3 c.requires.4)
 
 pub up-requires : goal.up-requires
 up-requires c =
-    let tree : Tree = tree_with c.args.rows c.requires.0 c.args.parents.now c.args.depths.now c.args.shares.now in
-    let rows : Rows = rows_of c.args.starts.now c.args.finishes.now c.args.virtuals.now c.args.heads.now c.args.head_lengths.now
-    c.args.head_classes.now in
-    let able : Finishes tree c.requires.3 c.args.next c.args.size c.requires.4 = c.requires.5 in
-    let arrays : Arrays c.requires.4 rows c.args.bytes.now c.args.held.now c.requires.1 c.requires.2 = c.requires.6 in let onward = c.depart-class.ensures.rows_after c.args.rows c.requires.0 (left c.requires.4) able.next_is in record {
+    let able = c.requires.3 in
+    let arrays = c.requires.4 in
+    let onward = c.depart-class.ensures.rows_after c.args.n c.requires.0 (left c.requires.2) able.next_is in
+    record {
       climbs = (
-        c.args.rows,
+        c.args.n,
         c.requires.0,
-        _,
         (λ (r : ℕ). r),
-        onward_climbs able arrays _ _ _ _ c.depart-class.ensures.class_sent c.list_children.ensures,
+        onward_climbs able arrays _ _ _ _ c.depart-class.ensures.class_sent c.list_children-finding.ensures,
       );
       inside = able.able.ready.inside;
       leeway = onward_leeway able arrays _ _ onward;
     }
 
-pub returns : goal.returns
-returns c ids since parent_since place box given lent =
-    let n = c.args.rows in
+pub returns-clause-finished : goal.returns-clause-finished
+returns-clause-finished c ids place box given lent =
+    let n = c.args.n in
     let class = c.depart-class.ensures.class_sent in
-    let climbs = onward_climbs given lent _ _ _ _ class c.list_children.ensures in
-    finished given lent _ _ _ _ _ _ _ _ _ class (c.depart-class.ensures.rows_after n ids (left box) given.next_is)
-    (c.up.ensures n ids _ (λ (r : ℕ). r) climbs)
-    (c.depart-class.ensures.counts_after n ids box since parent_since lent.rows_are lent.counts_are) c.on_line.ensures
+    let climbs = onward_climbs given lent _ _ _ _ class c.list_children-finding.ensures in
+    finished given lent _ _ _ _ _ _ _ class (c.depart-class.ensures.rows_after n ids (left box) given.next_is)
+    (c.up.ensures n ids (λ (r : ℕ). r) climbs)
+    (c.depart-class.ensures.counts_after n ids box lent.rows_are lent.counts_are) c.on_line.ensures

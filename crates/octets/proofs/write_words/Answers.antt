@@ -1,9 +1,10 @@
--- `octets::write_words` meets its contract. The loop's invariant: the bytes of the words passed are written over what was lent.
+-- `octets::write_words` meets its contract.
 -- Assumes nothing.
-use Prim.Native.Nat.{◌-◌}
-use mathlib.Core.Path.{◌≡◌, refl, ◌∙◌}
+use Prim.Native.Nat.{◌+◌, ◌≤◌}
+use mathlib.Core.Path.{refl}
+use native.Mathlib.Nat.{mul-le-mul_left}
 use native.Mathlib.Omega.{arith}
-use borrow.Author.Rules.{rules}
+use lib.ListN.{length}
 use Rattle.rules.specs.Outcome.{over}
 use Rattle.octets.specs.Octets.{bytes_of}
 use Rattle.octets.proofs.Turns.{write_turn}
@@ -11,17 +12,11 @@ use Rattle.octets.proofs.write_words.Goals as goal
 
 pub loop-i-init : goal.loop-i-init
 unfolding over bytes_of
-loop-i-init c = (search rules, refl, refl)
+loop-i-init g c = refl
 
 pub loop-i-preserved : goal.loop-i-preserved
-loop-i-preserved c = (
-  search rules,
-  c.put_word.ensures
-      ∙ write_turn 4 c.args.words.now c.args.bytes.now c.loop-i.bytes c.loop-i.i (omega (arith, c.requires.words_enough)) (omega (arith, c.requires.bytes_room)) c.loop-i.invariant.1,
-  c.put_word.auto.bytes ∙ c.loop-i.invariant.2,
-)
-
-pub returns : goal.returns
-returns c =
-    let all : c.loop-i.i ≡ c.args.n = omega arith in
-    rw (← all) c.loop-i.invariant.1
+loop-i-preserved g c =
+    let first : c.loop-i.i + 1 ≤ length c.args.words.now = omega arith in
+    let room = mul-le-mul_left g.W.Word.SIZE first in
+    rw (c.put.ensures, c.SIZE.ensures)
+    (write_turn g.W.Word.SIZE g.W.Word.number c.args.words.now c.index-words-i.result c.args.bytes.now c.loop-i.bytes c.loop-i.i (omega arith) c.index-words-i.is (omega (arith, room, c.requires)) c.loop-i.invariant)

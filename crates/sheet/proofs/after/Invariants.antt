@@ -2,14 +2,11 @@
 -- Assumes nothing.
 use Prim.Native.Nat.{◌-◌, ◌<◌}
 use mathlib.Core.Path.{◌≡◌}
-use mathlib.Core.Bool.{true}
-use Rattle.sheet.specs.Paper.{climbing, worked}
+use Rattle.sheet.specs.Paper.{figure, fraction, climbing, worked}
 use Rattle.sheet.proofs.after.Given as goal
 
-abbrev pub invariant-loop-left : goal.invariant-loop-left
-invariant-loop-left l =
-    (l.figure.fits ≡ true → 0 < l.figure.denominator)
-    × (climbing l.left l.parents l.shares l.largest l.ticks l.at l.figure ≡ worked l.steps l.parents l.shares l.largest l.ticks l.row l.own)
-
-abbrev pub decreases-loop-left : goal.decreases-loop-left
-decreases-loop-left l = l.left
+abbrev pub invariant-loop : goal.invariant-loop
+invariant-loop l =
+    (0 < l.figure.1.0)
+    × (climbing (l.steps - l.counter) l.parents l.shares l.largest l.ticks l.at (figure (fraction l.figure.0 l.figure.1.0))
+    ≡ worked l.steps l.parents l.shares l.largest l.ticks l.row l.own)

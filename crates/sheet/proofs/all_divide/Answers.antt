@@ -1,6 +1,6 @@
 -- `sheet::all_divide` meets its contract: the shares that are left, from where the loop stands, say what all of them say.
 -- Assumes nothing.
-use Prim.Native.Nat.{ℕ, zero, suc, ◌-◌, ◌%◌, ◌<◌}
+use Prim.Native.Nat.{ℕ, zero, suc, ◌+◌, ◌%◌, ◌-◌, ◌<◌}
 use mathlib.Core.Path.{◌≡◌, refl, sym, ◌∙◌}
 use mathlib.Core.Bool.{true, false}
 use mathlib.Core.List.{List}
@@ -19,31 +19,28 @@ stops zero parents shares at some fails = absurd (omega arith)
 stops (suc n) parents shares at some fails = rw fails refl
 
 goes_on :
-    (left : ℕ) (parents shares : List ℕ) (at : ℕ) → 0 < left → eqb (scale % get_or shares at 0) 0 ≡ true
-    → dividing (left - 1) parents shares (get_or parents at 0) ≡ dividing left parents shares at
+    (left rest : ℕ) (parents shares : List ℕ) (at : ℕ) → rest + 1 ≡ left → eqb (scale % get_or shares at 0) 0 ≡ true
+    → dividing rest parents shares (get_or parents at 0) ≡ dividing left parents shares at
 unfolding dividing
-goes_on zero parents shares at some passes = absurd (omega arith)
-goes_on (suc n) parents shares at some passes = let one : suc n - 1 ≡ n = omega arith in rw (passes, one) refl
-
-pub loop-rest-init : goal.loop-rest-init
-loop-rest-init c = refl
+goes_on zero rest parents shares at more passes = absurd (omega arith)
+goes_on (suc n) rest parents shares at more passes = let one : rest ≡ n = omega arith in rw (passes, one) refl
 
 pub returns-then-not-divides : goal.returns-then-not-divides
 returns-then-not-divides c =
-    let at = c.loop-rest in
+    let at = c.loop in
     let fails = sym c.divides.ensures ∙ c.if-not-divides.true in
-    sym (stops _ _ _ _ c.loop-rest-test.true (rw c.word.ensures at fails)) ∙ at.invariant
+    sym (stops _ _ _ _ (omega (arith, c.loop-test.true)) (rw c.word.ensures at fails)) ∙ at.invariant
 
-pub loop-rest-preserved : goal.loop-rest-preserved
-loop-rest-preserved c =
-    let at = c.loop-rest in
+pub loop-preserved : goal.loop-preserved
+loop-preserved c =
+    let at = c.loop in
     let passes = sym c.divides.ensures ∙ c.if-not-divides.false in
     rw c.word-here.ensures
-    (goes_on _ _ _ _ c.loop-rest-test.true (rw c.word.ensures at passes) ∙ at.invariant)
+    (goes_on _ _ _ _ _ (omega (arith, c.loop-test.true)) (rw c.word.ensures at passes) ∙ at.invariant)
 
 pub returns : goal.returns
 unfolding dividing
 returns c =
-    let at = c.loop-rest in
-    let end : at.rest ≡ 0 = omega arith in
+    let at = c.loop in
+    let end : c.args.steps - at.counter ≡ 0 = omega arith in
     rw end at at.invariant

@@ -10,12 +10,12 @@ pub loop-x-init : goal.loop-x-init
 loop-x-init c = (c.requires, λ d one other. (one, other), λ d one other. (one, other))
 
 pub loop-x-smaller : goal.loop-x-smaller
-loop-x-smaller c = mod-lt _ c.loop-x-test.true
+loop-x-smaller c = mod-lt _ (omega (arith, c.loop-x-test.true))
 
 pub loop-x-preserved : goal.loop-x-preserved
 loop-x-preserved c =
     let at = c.loop-x in (
-      c.loop-x-test.true,
+      omega (arith, c.loop-x-test.true),
       λ d rest one. at.invariant.1 d one ((dvd-mod_iff d one).0 rest),
       λ d one other. let kept = at.invariant.2 d one other in ((dvd-mod_iff d kept.0).1 kept.1, kept.0),
     )

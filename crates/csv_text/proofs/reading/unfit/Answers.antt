@@ -1,50 +1,65 @@
 -- `unfit` meets its contract, by the tests that lead to each case.
 -- Assumes nothing.
-use mathlib.Core.Path.{sym, ap, ◌∙◌}
+use mathlib.Core.Path.{refl, sym, ap, ◌∙◌}
 use native.Mathlib.Omega.{arith}
 use lib.Seq.{length-take-le}
 use Rattle.input.specs.declared.Refusal.{Refusal}
+use Rattle.input.specs.Refusals.{nothing}
 use Rattle.input.specs.Lent.{table_of}
-use Rattle.tables.specs.declared.Reading.{Reading}
+use Rattle.forms.specs.Outcomes.{rows_found}
 use Rattle.csv_text.specs.Kept.{first_rows}
-use Rattle.csv_text.proofs.Cases.{unfit_fault, unfit_count, unfit_short, unfit_own, few_rows, rows_right, own_refusal}
+use Rattle.tables.proofs.Judging.{errs, handed}
+use Rattle.csv_text.proofs.Judging.{err_is, numbered}
+use Rattle.csv_text.proofs.Cases.{unfit_count, unfit_short, unfit_own, few_rows, rows_right, own_refusal}
 use Rattle.csv_text.proofs.reading.unfit.Goals as goal
 
-pub returns-then-fault-ne0 : goal.returns-then-fault-ne0
-returns-then-fault-ne0 c = sym (unfit_fault _ _ _ c.if-fault-ne0.true)
+pub returns-in_err-count_refused : goal.returns-in_err-count_refused
+unfolding rows_found nothing
+returns-in_err-count_refused c =
+    let refuses = c.in_err-count_refused.ensures in
+    rw (err_is _ _ c.from_residual.ensures.1) (errs _ _ (refuses.1 ∙ sym (unfit_count _ _ _ refl refuses.0)) (numbered _ _ refuses))
 
-pub returns-then-counted-ne0 : goal.returns-then-counted-ne0
-returns-then-counted-ne0 c = c.count_refused-counted.ensures ∙ sym (unfit_count _ _ _ c.if-fault-ne0.false (λ e. c.if-counted-ne0.true (ap (λ (r : Refusal). r.number) c.count_refused-counted.ensures ∙ e)))
+pub returns-then-not-room : goal.returns-then-not-room
+unfolding rows_found nothing
+returns-then-not-room c =
+    errs _ _ (c.refusal.ensures ∙ sym (unfit_short _ _ _ refl c.in_ok-count_refused.ensures.0 c.if-not-room.true)) (rw c.refusal.ensures (λ none. omega arith))
 
-pub slice_bounds-read_table-end : goal.slice_bounds-read_table-end
-slice_bounds-read_table-end c =
+pub slice_bounds-identifiers-end : goal.slice_bounds-identifiers-end
+slice_bounds-identifiers-end c =
     let args = c.args in
-    let few = few_rows args.read.rows (sym (ap (λ (r : Refusal). r.number) c.count_refused-counted.ensures) ∙ c.if-counted-ne0.false) in
+    let few = few_rows args.read.rows c.in_ok-count_refused.ensures.0 in
     sym (length-take-le args.read.rows args.row_identifiers.now (omega (arith, few.1, c.requires.0)))
 
-pub slice_bounds-read_table-end-then-room : goal.slice_bounds-read_table-end-then-room
-slice_bounds-read_table-end-then-room c =
+pub slice_bounds-parents-end : goal.slice_bounds-parents-end
+slice_bounds-parents-end c =
     let args = c.args in
-    let few = few_rows args.read.rows (sym (ap (λ (r : Refusal). r.number) c.count_refused-counted.ensures) ∙ c.if-counted-ne0.false) in
+    let few = few_rows args.read.rows c.in_ok-count_refused.ensures.0 in
     sym (length-take-le args.read.rows args.row_parents.now (omega (arith, few.1, c.requires.1)))
 
-pub slice_bounds-read_table-end-then-room-2 : goal.slice_bounds-read_table-end-then-room-2
-slice_bounds-read_table-end-then-room-2 c =
+pub slice_bounds-shares-end : goal.slice_bounds-shares-end
+slice_bounds-shares-end c =
     let args = c.args in
-    let few = few_rows args.read.rows (sym (ap (λ (r : Refusal). r.number) c.count_refused-counted.ensures) ∙ c.if-counted-ne0.false) in
+    let few = few_rows args.read.rows c.in_ok-count_refused.ensures.0 in
     sym (length-take-le args.read.rows args.row_shares.now (omega (arith, few.1, c.requires.2)))
 
-pub returns-then-room : goal.returns-then-room
-unfolding first_rows
-returns-then-room c =
+pub returns-in_err-read_table : goal.returns-in_err-read_table
+unfolding first_rows rows_found nothing
+returns-in_err-read_table c =
     let args = c.args in
     let words = table_of args.row_identifiers.now args.row_parents.now args.row_shares.now in
-    let none = sym (ap (λ (r : Refusal). r.number) c.count_refused-counted.ensures) ∙ c.if-counted-ne0.false in
+    let none = c.in_ok-count_refused.ensures.0 in
     let right = rows_right words args.read.rows none c.requires.0 c.requires.1 c.requires.2 in
-    let own = unfit_own args.read words _ c.if-fault-ne0.false none c.if-room.true in
-    ap (λ (r : Reading). r.refusal) c.read_table-reading.ensures ∙ own_refusal _ right ∙ sym own
+    let own = unfit_own (rows_found args.read.rows args.read.kept) words _ refl none c.if-not-room.false in
+    let same = own_refusal _ right ∙ sym own in
+    handed _ tt c.from_residual-in_err-read_table.result _ c.from_residual-in_err-read_table.ensures.1 (rw same at c.in_err-read_table.ensures)
 
 pub returns : goal.returns
+unfolding first_rows rows_found nothing
 returns c =
-    let none = sym (ap (λ (r : Refusal). r.number) c.count_refused-counted.ensures) ∙ c.if-counted-ne0.false in
-    c.refusal.ensures ∙ sym (unfit_short _ _ _ c.if-fault-ne0.false none c.if-room.false)
+    let args = c.args in
+    let words = table_of args.row_identifiers.now args.row_parents.now args.row_shares.now in
+    let none = c.in_ok-count_refused.ensures.0 in
+    let right = rows_right words args.read.rows none c.requires.0 c.requires.1 c.requires.2 in
+    let own = unfit_own (rows_found args.read.rows args.read.kept) words _ refl none c.if-not-room.false in
+    let same = own_refusal _ right ∙ sym own in
+    (ap (λ (r : Refusal). r.number) (sym same) ∙ c.in_ok-read_table.ensures.0, refl)

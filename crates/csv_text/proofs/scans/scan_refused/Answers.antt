@@ -1,13 +1,11 @@
--- `scan_refused` meets its contract, by its test.
+-- `scan_refused` meets its contract where there is no fault.
 -- Assumes nothing.
+use mathlib.Core.Path.{refl}
+use borrow.Author.Tests.{eq-eqb}
+use Rattle.input.specs.Refusals.{nothing}
 use Rattle.forms.specs.Faults.{scan_refused}
-use borrow.Author.Tests.{eq-eqb, ne_eqb}
 use Rattle.csv_text.proofs.scans.scan_refused.Goals as goal
 
-pub returns-then-number-eq0 : goal.returns-then-number-eq0
-unfolding scan_refused
-returns-then-number-eq0 c = rw (← c.fault_at-number.ensures, eq-eqb _ 0 c.if-number-eq0.true) c.none.ensures
-
-pub returns : goal.returns
-unfolding scan_refused
-returns c = rw (← c.fault_at-number.ensures, ne_eqb _ 0 c.if-number-eq0.false, c.line_of.ensures)
+pub returns-in-None : goal.returns-in-None
+unfolding scan_refused nothing
+returns-in-None c = (rw (eq-eqb _ 0 (rw c.in-None.is at c.fault_at.ensures)), refl)

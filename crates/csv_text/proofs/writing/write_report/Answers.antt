@@ -1,63 +1,41 @@
--- `csv::writing::write_report` meets its contract: the page has room for any report, so that what is used of it is the text.
+-- `csv_text::writing::write_report` meets its contract: the page has room for any report, so that what is used of it is the text.
 -- Assumes nothing.
-use mathlib.Core.Path.{sym}
+use mathlib.Core.Path.{sym, ap}
 use native.Mathlib.Omega.{arith}
-use Rattle.csv_text.proofs.Written.{report_unfit, report_held, report_short, report_fine}
+use lib.ListN.{length}
+use Rattle.csv_text.proofs.Judging.{err_is}
+use Rattle.csv_text.proofs.Written.{report_unfit, report_fits, report_whole, report_short, report_fine}
 use Rattle.csv_text.proofs.writing.write_report.Goals as goal
 
-pub returns-then-unfit-ne0 : goal.returns-then-unfit-ne0
-returns-then-unfit-ne0 c =
+pub returns-in_err-report_refused : goal.returns-in_err-report_refused
+returns-in_err-report_refused c =
     let args = c.args in
-    let lent = args.text.now in
-    rw (c.answer.ensures, c.report_refused-unfit.ensures)
-    (sym (report_unfit args.identifiers.now args.report.now args.lags.now lent (rw c.report_refused-unfit.ensures at c.if-unfit-ne0.true)))
+    let refuses = c.in_err-report_refused.ensures in
+    rw (err_is _ _ c.from_residual.ensures.1, refuses.1) (sym (report_unfit args.identifiers.now args.report.now args.lags.now args.text.now refuses.0))
 
-pub returns-then-text-used : goal.returns-then-text-used
-returns-then-text-used c =
+pub returns-then-text-bytes : goal.returns-then-text-bytes
+returns-then-text-bytes c =
     let args = c.args in
     let lent = args.text.now in
-    let fits = rw c.report_refused-unfit.ensures at c.if-unfit-ne0.false in
-    let held = report_held args.identifiers.now args.report.now args.lags.now lent fits c.put_report-used.new.page _ c.put_report-used.ensures in
-    rw (c.answer-then-text-used.ensures, c.refusal.ensures)
-    (sym (report_short args.identifiers.now args.report.now args.lags.now lent fits (omega (arith, held.long))))
+    let fits = c.in_ok-report_refused.ensures.0 in
+    let whole = report_whole args.identifiers.now args.report.now args.lags.now lent fits _ _ _ c.blank-page.ensures.unused c.blank-page.ensures.size
+    c.put_report.ensures c.text-bytes.ensures in
+    rw c.refusal.ensures (sym (report_short args.identifiers.now args.report.now args.lags.now lent fits (omega (arith, ap length whole))))
 
-pub slice_bounds-page-end : goal.slice_bounds-page-end
-slice_bounds-page-end c =
+pub overflow_cast-result : goal.overflow_cast-result
+overflow_cast-result c =
     let args = c.args in
     let lent = args.text.now in
-    let fits = rw c.report_refused-unfit.ensures at c.if-unfit-ne0.false in
-    let held = report_held args.identifiers.now args.report.now args.lags.now lent fits c.put_report-used.new.page _ c.put_report-used.ensures in
-    held.within
-
-pub slice_bounds-copy-end : goal.slice_bounds-copy-end
-slice_bounds-copy-end c =
-    let args = c.args in
-    let lent = args.text.now in
-    let fits = rw c.report_refused-unfit.ensures at c.if-unfit-ne0.false in
-    let held = report_held args.identifiers.now args.report.now args.lags.now lent fits c.put_report-used.new.page _ c.put_report-used.ensures in
-    rw held.begun held.long
-
-pub copy-requires : goal.copy-requires
-copy-requires c =
-    let args = c.args in
-    let lent = args.text.now in
-    let fits = rw c.report_refused-unfit.ensures at c.if-unfit-ne0.false in
-    let held = report_held args.identifiers.now args.report.now args.lags.now lent fits c.put_report-used.new.page _ c.put_report-used.ensures in
-    rw held.begun (omega (arith, held.long))
-
-pub overflow_cast-used : goal.overflow_cast-used
-overflow_cast-used c =
-    let args = c.args in
-    let lent = args.text.now in
-    let fits = rw c.report_refused-unfit.ensures at c.if-unfit-ne0.false in
-    let held = report_held args.identifiers.now args.report.now args.lags.now lent fits c.put_report-used.new.page _ c.put_report-used.ensures in
-    record { fits = omega (arith, held.short) }
+    let fits = c.in_ok-report_refused.ensures.0 in
+    let whole = report_whole args.identifiers.now args.report.now args.lags.now lent fits _ _ _ c.blank-page.ensures.unused c.blank-page.ensures.size
+    c.put_report.ensures c.text-bytes.ensures in
+    record { fits = omega (arith, ap length whole, report_fits args.identifiers.now args.report.now args.lags.now lent fits) }
 
 pub returns : goal.returns
 returns c =
     let args = c.args in
     let lent = args.text.now in
-    let fits = rw c.report_refused-unfit.ensures at c.if-unfit-ne0.false in
-    let held = report_held args.identifiers.now args.report.now args.lags.now lent fits c.put_report-used.new.page _ c.put_report-used.ensures in
-    rw (c.answer-2.ensures, c.copy.ensures, c.report_refused-unfit.ensures, held.begun, held.long)
-    (sym (report_fine args.identifiers.now args.report.now args.lags.now lent fits (omega (arith, held.long))))
+    let fits = c.in_ok-report_refused.ensures.0 in
+    let whole = report_whole args.identifiers.now args.report.now args.lags.now lent fits _ _ _ c.blank-page.ensures.unused c.blank-page.ensures.size
+    c.put_report.ensures c.text-bytes.ensures in
+    rw (c.copy.ensures, whole) (sym (report_fine args.identifiers.now args.report.now args.lags.now lent fits (omega (arith, ap length whole))))

@@ -1,19 +1,26 @@
--- `read_all` meets its contract and ends: each turn reads more, and the turns that are left are fewer each time.
+-- `read_all` meets its contract: each turn reads more.
 -- Assumes nothing.
-use Rattle.files.proofs.Bytes.{nothing, more}
-use borrow.Author.Rules.{rules}
+use Rattle.std.proofs.Common.{rules}
+use Rattle.files.specs.Columns.{scan_after}
+use Rattle.files.proofs.Bytes.{nothing, more, failed_reads, ended_reads}
 use Rattle.files.proofs.reading.read_all.Goals as goal
 
-pub loop-turns-init : goal.loop-turns-init
-loop-turns-init g c = (search rules, search rules, nothing _)
+pub loop-init : goal.loop-init
+loop-init g c = (search rules, search rules, nothing _)
 
-pub returns-then-not-turn : goal.returns-then-not-turn
-returns-then-not-turn g c = c.loop-turns.invariant.2
+pub returns-in_err-next : goal.returns-in_err-next
+returns-in_err-next g c = failed_reads _ (more c.loop.invariant.2 c.read_some.ensures) c.from_residual.ensures.0
 
-pub loop-turns-preserved : goal.loop-turns-preserved
-loop-turns-preserved g c =
-    let at = c.loop-turns in
-    (search rules, search rules, more at.invariant.2 c.read_some-turn.ensures)
+pub returns-in-None : goal.returns-in-None
+unfolding scan_after
+returns-in-None g c =
+    ended_reads (more c.loop.invariant.2 (rw (c.in_ok-next.was, c.in-None.is) at c.read_some.ensures))
+
+pub loop-preserved : goal.loop-preserved
+unfolding scan_after
+loop-preserved g c =
+    let at = c.loop in
+    (search rules, search rules, more at.invariant.2 (rw (c.in_ok-next.was, c.in-Some.is) at c.read_some.ensures))
 
 pub returns : goal.returns
-returns g c = c.loop-turns.invariant.2
+returns g c = ended_reads c.loop.invariant.2

@@ -1,8 +1,6 @@
 -- `read_all` meets its contract and ends: what is used grows each time, and stays within what is lent.
 -- Assumes nothing.
-use Prim.Native.Nat.{◌≤◌, ◌-◌}
-use mathlib.Core.Path.{◌≡◌}
-use lib.ListN.{length}
+use Rattle.std.proofs.Common.{◌≡◌, ◌≤◌, ◌-◌, length}
 use Rattle.files.proofs.whole.read_all.Given as goal
 
 abbrev pub invariant-loop-used : goal.invariant-loop-used

@@ -1,73 +1,62 @@
 -- `live_box::meeting::arrival` meets its contract: what the checks refuse is what the definition refuses.
 -- Assumes nothing.
-use mathlib.Core.Path.{ap, sym, ◌∙◌}
+use Prim.Native.Nat.{ℕ}
+use mathlib.Core.Path.{◌≡◌, refl, ap, sym, ◌∙◌}
 use native.Mathlib.Omega.{arith}
+use Rattle.input.specs.declared.Event.TheVariants.{Arrival}
+use Rattle.input.specs.EventRows.{row_for}
 use Rattle.rules.specs.Refused.{idle}
-use Rattle.live_rules.specs.declared.LiveAnswer.{LiveAnswer}
 use Rattle.live_rules.specs.State.{box_of, live_in}
-use Rattle.taking.specs.Taken.{left_of}
-use Rattle.live_box.proofs.EventOutcome.{few_rows, as_long, enough, class_found, row_of_class, arrival_refused, arrival_takes, refused_met, taken_met}
+use Rattle.live_box.proofs.EventOutcome.{few_rows, as_long, row_inside, class_found, arrival_takes, arrival_first, arrival_full, arrival_passed, refused_met, taken_met}
 use Rattle.live_box.proofs.meeting.arrival.Goals as goal
 
-pub slice_bounds-identifiers-end : goal.slice_bounds-identifiers-end
-slice_bounds-identifiers-end c =
-    enough c.args.words.now c.args.state c.requires
-
 pub slice_bounds-row_of-end : goal.slice_bounds-row_of-end
-slice_bounds-row_of-end c =
-    as_long c.args.words.now c.args.state c.requires
+slice_bounds-row_of-end c = as_long c.args.words.now c.args.state.now c.requires
 
-pub check_packet-check-requires : goal.check_packet-check-requires
-check_packet-check-requires c =
-    let a = c.args in
-    let few = few_rows a.words.now a.state c.requires in
-    let long = as_long a.words.now a.state c.requires in
-    let found = c.row_of-row.ensures.1 in
-    (omega arith, few, omega arith)
+pub shared_ref_as_front-row_of : goal.shared_ref_as_front-row_of
+shared_ref_as_front-row_of c = few_rows c.args.words.now c.args.state.now c.requires
 
-pub returns-then-refusal-ne0 : goal.returns-then-refusal-ne0
-returns-then-refusal-ne0 c =
+pub check_packet-requires : goal.check_packet-requires
+check_packet-requires c = (row_inside c.args.words.now c.args.state.now c.requires c.args.class c.args.size c.row_of-row.result c.row_of-row.ensures, omega arith)
+
+pub returns-in_err-k : goal.returns-in_err-k
+returns-in_err-k c =
     let a = c.args in
-    let check = c.check_packet-check in
-    let full = c.full_refused-full in
-    let or_else = c.or_else-refusal in
     let live = live_in a.words.now in
-    let refused =
-    arrival_refused a.words.now a.state c.requires a.class a.size c.row_of-row.result c.row_of-row.ensures.0 check.result.refusal full.result
-    or_else.result
-    (check.ensures live.tree a.size a.class (idle (box_of live))
-    (class_found a.words.now a.state c.requires a.class a.size c.row_of-row.result c.row_of-row.ensures.0)
-    ).refusal
-    (full.ensures live a.class a.size (sym c.requires.opened.accepted) (sym c.requires.opened.packets))
-    or_else.ensures in
-    ap (λ (answer : LiveAnswer). left_of answer a.words.now) c.refusing.ensures
-    ∙ refused_met a.words.now a.size _ _ refused c.if-refusal-ne0.true
+    let found = class_found a.words.now a.state.now c.requires a.class a.size c.row_of-row.result c.row_of-row.ensures in
+    refused_met a.words.now a.size (Arrival a.class a.size) _ c.from_residual.result c.from_residual.ensures.1
+    (arrival_first live a.class a.size _ (c.in_err-k.ensures live.tree a.size a.class (idle (box_of live)) found))
+
+pub returns-in_err-full_refused : goal.returns-in_err-full_refused
+returns-in_err-full_refused c =
+    let a = c.args in
+    let live = live_in a.words.now in
+    let found = class_found a.words.now a.state.now c.requires a.class a.size c.row_of-row.result c.row_of-row.ensures in
+    let fine = c.in_ok-k.ensures live.tree a.size a.class (idle (box_of live)) found in
+    let handed = c.from_residual-in_err-full_refused in
+    refused_met a.words.now a.size (Arrival a.class a.size) _ handed.result handed.ensures.1
+    (arrival_full live a.class a.size fine.0 _ (c.in_err-full_refused.ensures live a.class a.size (sym c.requires.opened.accepted) (sym c.requires.opened.packets)))
 
 pub take_arrival-requires : goal.take_arrival-requires
-take_arrival-requires c = let a = c.args in let check = c.check_packet-check in let full = c.full_refused-full in let or_else = c.or_else-refusal in let live = live_in a.words.now in let refused =
-    arrival_refused a.words.now a.state c.requires a.class a.size c.row_of-row.result c.row_of-row.ensures.0 check.result.refusal full.result
-    or_else.result
-    (check.ensures live.tree a.size a.class (idle (box_of live))
-    (class_found a.words.now a.state c.requires a.class a.size c.row_of-row.result c.row_of-row.ensures.0)
-    ).refusal
-    (full.ensures live a.class a.size (sym c.requires.opened.accepted) (sym c.requires.opened.packets))
-    or_else.ensures in record { state_room = c.requires.long; takes = arrival_takes a.words.now a.state c.requires a.class a.size c.row_of-row.result c.row_of-row.ensures.0 or_else.result refused c.if-refusal-ne0.false }
+unfolding row_for
+take_arrival-requires c =
+    let a = c.args in
+    let live = live_in a.words.now in
+    let found = class_found a.words.now a.state.now c.requires a.class a.size c.row_of-row.result c.row_of-row.ensures in
+    let fine = c.in_ok-k.ensures live.tree a.size a.class (idle (box_of live)) found in
+    let full = c.in_ok-full_refused.ensures live a.class a.size (sym c.requires.opened.accepted) (sym c.requires.opened.packets) in
+    record {
+      state_room = c.requires.long;
+      takes = arrival_takes a.words.now a.state.now c.requires a.class a.size _ fine.1 (arrival_passed live a.class a.size fine.0 full.0);
+    }
 
 pub returns : goal.returns
+unfolding row_for
 returns c =
     let a = c.args in
-    let check = c.check_packet-check in
-    let full = c.full_refused-full in
-    let or_else = c.or_else-refusal in
     let live = live_in a.words.now in
-    let refused =
-    arrival_refused a.words.now a.state c.requires a.class a.size c.row_of-row.result c.row_of-row.ensures.0 check.result.refusal full.result
-    or_else.result
-    (check.ensures live.tree a.size a.class (idle (box_of live))
-    (class_found a.words.now a.state c.requires a.class a.size c.row_of-row.result c.row_of-row.ensures.0)
-    ).refusal
-    (full.ensures live a.class a.size (sym c.requires.opened.accepted) (sym c.requires.opened.packets))
-    or_else.ensures in
-    c.take_arrival.ensures a.class
-    (row_of_class a.words.now a.state c.requires a.class a.size c.row_of-row.result c.row_of-row.ensures.0)
-    ∙ sym (taken_met a.words.now a.size _ _ refused c.if-refusal-ne0.false)
+    let found = class_found a.words.now a.state.now c.requires a.class a.size c.row_of-row.result c.row_of-row.ensures in
+    let fine = c.in_ok-k.ensures live.tree a.size a.class (idle (box_of live)) found in
+    let full = c.in_ok-full_refused.ensures live a.class a.size (sym c.requires.opened.accepted) (sym c.requires.opened.packets) in
+    c.take_arrival.ensures a.class (sym fine.1)
+    ∙ sym (taken_met a.words.now a.size (Arrival a.class a.size) (arrival_passed live a.class a.size fine.0 full.0))

@@ -14,6 +14,6 @@ write_lags-requires c = let can = c.requires.tellable in record { rows_few = can
 pub returns : goal.returns
 returns c =
     λ live opened.
-    let r = c.args.state in
+    let r = c.args.state.now in
     written live r opened _ _ _ _ (c.write_report.ensures live.tree (box_of live) opened.senders (shown live r opened))
     (c.write_lags.ensures live.tree (box_of live) (shares_are live r opened) (counts_are live r opened))

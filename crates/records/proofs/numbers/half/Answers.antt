@@ -1,4 +1,4 @@
--- `records::numbers::half` meets its contract: the two bytes are joined in the one order or in the other, below two that are 0.
+-- `records::numbers::half` meets its contract: the two bytes in the one order or in the other.
 -- Assumes nothing.
 use native.Mathlib.Omega.{arith}
 use Rattle.octets.specs.Octets.{number_of}
@@ -7,8 +7,8 @@ use Rattle.records.proofs.numbers.half.Goals as goal
 
 pub returns-then-big : goal.returns-then-big
 unfolding half_at number_of
-returns-then-big c = rw c.if-big.true (omega (arith, c.joined.ensures))
+returns-then-big c = rw c.if-big.true (omega (arith, c.from_be_bytes.ensures))
 
 pub returns : goal.returns
 unfolding half_at number_of
-returns c = rw c.if-big.false (omega (arith, c.joined-2.ensures))
+returns c = rw c.if-big.false (omega (arith, c.from_le_bytes.ensures))

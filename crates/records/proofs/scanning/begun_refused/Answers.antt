@@ -7,11 +7,13 @@ use native.Mathlib.Omega.{arith}
 use lib.Dec.{ltb}
 use lib.ListN.{length}
 use borrow.Author.Tests.{lt-ltb, le-ltb}
-use Rattle.input.specs.Refusals.{given, first}
+use Rattle.input.specs.declared.Refusal.{Refusal}
+use Rattle.input.specs.Refusals.{nothing, given, first}
 use Rattle.pcap.specs.Headers.{record_bytes}
 use Rattle.pcap.specs.Records.{packet_at, stamp_at}
 use Rattle.pcap.specs.Faults.{not_ipv4, begun_refused}
 use Rattle.records.proofs.Given.{holds, fails, fails_last}
+use Rattle.records.proofs.Judging.{refuses}
 use Rattle.records.proofs.Laid.{packet_length, in_order}
 use Rattle.records.proofs.scanning.begun_refused.Goals as goal
 
@@ -19,7 +21,8 @@ pub returns-then-left-lt-RECORD_BYTES : goal.returns-then-left-lt-RECORD_BYTES
 unfolding begun_refused
 returns-then-left-lt-RECORD_BYTES c =
     let short = lt-ltb (length c.args.capture.now - c.args.at) record_bytes c.if-left-lt-RECORD_BYTES.true in
-    rw (← c.requires.begins, ← c.record_place-place.ensures.0) (c.refusal.ensures ∙ sym (holds _ 35 _ _ short (omega arith)))
+    let whole : c.refusal.result ≡ begun_refused c.args.capture.now c.args.k = rw (← c.requires.begins, ← c.record_place-place.ensures.0) (c.refusal.ensures ∙ sym (holds _ 35 _ _ short (omega arith))) in
+    refuses c.refusal.ensures (omega arith) whole
 
 pub returns-then-left-included : goal.returns-then-left-included
 unfolding begun_refused
@@ -41,7 +44,7 @@ returns-then-left-included c =
       ← c.included.ensures.1 c.requires.laid,
     )
     (fails _ 35 _ _ (le-ltb (length capture - at) record_bytes c.if-left-lt-RECORD_BYTES.false)) in
-    c.refusal-then-left-included.ensures ∙ sym (past_header ∙ holds _ 36 _ _ (lt-ltb left c.included.result c.if-left-included.true) (omega arith))
+    refuses c.refusal-then-left-included.ensures (omega arith) (c.refusal-then-left-included.ensures ∙ sym (past_header ∙ holds _ 36 _ _ (lt-ltb left c.included.result c.if-left-included.true) (omega arith)))
 
 pub returns-then-not_ipv4 : goal.returns-then-not_ipv4
 unfolding begun_refused
@@ -75,7 +78,7 @@ returns-then-not_ipv4 c =
     c.not_ipv4.ensures ∙ ap (λ (packet : List ℕ). not_ipv4 (length packet) packet) (c.packet.ensures laid)
     ∙ ap (λ (n : ℕ). not_ipv4 n (packet_at capture at)) whole
     in
-    past_header ∙ fails _ 36 _ _ (le-ltb left bytes.result room) ∙ rw (← judged) refl in c.refusal-then-not_ipv4.ensures ∙ sym (past_packet ∙ holds _ 37 _ _ c.if-not_ipv4.true (omega arith))
+    past_header ∙ fails _ 36 _ _ (le-ltb left bytes.result room) ∙ rw (← judged) refl in refuses c.refusal-then-not_ipv4.ensures (omega arith) (c.refusal-then-not_ipv4.ensures ∙ sym (past_packet ∙ holds _ 37 _ _ c.if-not_ipv4.true (omega arith)))
 
 pub returns-then-stamp-last : goal.returns-then-stamp-last
 unfolding begun_refused
@@ -115,10 +118,10 @@ returns-then-stamp-last c =
     let past_ipv4 : begun_refused capture c.args.k
     ≡ first (given (ltb (stamp_at capture at) last) 38 place ∷ []) = past_packet ∙ fails _ 37 _ _ c.if-not_ipv4.false in
     let late = sym stamped ∙ lt-ltb c.stamp.result last c.if-stamp-last.true in
-    c.refusal-then-stamp-last.ensures ∙ sym (past_ipv4 ∙ holds _ 38 _ _ late (omega arith))
+    refuses c.refusal-then-stamp-last.ensures (omega arith) (c.refusal-then-stamp-last.ensures ∙ sym (past_ipv4 ∙ holds _ 38 _ _ late (omega arith)))
 
 pub returns : goal.returns
-unfolding begun_refused
+unfolding begun_refused nothing
 returns c =
     let capture : List ℕ = c.args.capture.now in
     let at : ℕ = c.args.at in
@@ -155,4 +158,4 @@ returns c =
     let past_ipv4 : begun_refused capture c.args.k
     ≡ first (given (ltb (stamp_at capture at) last) 38 place ∷ []) = past_packet ∙ fails _ 37 _ _ c.if-not_ipv4.false in
     let fine = sym stamped ∙ le-ltb c.stamp.result last c.if-stamp-last.false in
-    c.none.ensures ∙ sym (past_ipv4 ∙ fails_last _ 38 _ fine)
+    (ap (λ (r : Refusal). r.number) (past_ipv4 ∙ fails_last _ 38 _ fine), refl)

@@ -7,7 +7,7 @@ use Rattle.records.proofs.Passing.{Passed}
 use Rattle.records.proofs.scanning.check_records.Given as goal
 
 abbrev pub invariant-loop-at : goal.invariant-loop-at
-invariant-loop-at l = Next l.capture l.layout l.k l.at l.last × Passed l.capture l.k
+invariant-loop-at l = Next l.capture l.layout l.records l.at l.last × Passed l.capture l.records
 
 abbrev pub decreases-loop-at : goal.decreases-loop-at
 decreases-loop-at l = length l.capture - l.at

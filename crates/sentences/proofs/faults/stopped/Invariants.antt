@@ -1,13 +1,9 @@
 -- `stopped` meets its contract: the scan is that of the bytes before the fault.
 -- Assumes nothing.
-use Prim.Native.Nat.{◌≤◌, ◌-◌}
 use mathlib.Core.Path.{◌≡◌}
-use lib.ListN.{length, take}
+use lib.ListN.{take}
 use Rattle.forms.specs.Faults.{read_text}
 use Rattle.sentences.proofs.faults.stopped.Given as goal
 
-abbrev pub invariant-loop-i : goal.invariant-loop-i
-invariant-loop-i l = (l.i ≤ length l.text) × (l.scan ≡ (read_text (take l.i l.text)).scan)
-
-abbrev pub decreases-loop-i : goal.decreases-loop-i
-decreases-loop-i l = length l.text - l.i
+abbrev pub invariant-loop-at : goal.invariant-loop-at
+invariant-loop-at l = l.scan ≡ (read_text (take l.at l.text)).scan

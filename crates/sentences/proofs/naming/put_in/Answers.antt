@@ -3,12 +3,11 @@
 use Rattle.output.proofs.Pages.{then}
 use Rattle.output.specs.Quoted.{bytes_of}
 use Rattle.sentences.proofs.Names.{in_none, in_some}
-use borrow.Author.Rules.{rules}
 use Rattle.sentences.proofs.naming.put_in.Goals as goal
 
-pub returns-then-name-eq0 : goal.returns-then-name-eq0
-returns-then-name-eq0 c = search (rules, in_none)
-
-pub returns : goal.returns
+pub returns-then-not-is_empty : goal.returns-then-not-is_empty
 unfolding bytes_of
-returns c = search (rules, in_some, then)
+returns-then-not-is_empty g c = in_some _ _ _ c.if-not-is_empty.ensures (then _ _ _ c.put_text.ensures c.put_name.ensures)
+
+pub returns-else-not-is_empty : goal.returns-else-not-is_empty
+returns-else-not-is_empty g c = in_none _ _ c.if-not-is_empty.ensures

@@ -1,45 +1,41 @@
--- `fill` meets its contract. The loop's invariant: what remains of the template, put on the page as it is, is all of it put on the page as it was.
+-- `fill` meets its contract: what remains of the template, put on the page as it is, is all of it put on the page as it was.
 -- Assumes nothing.
-use Prim.Native.Nat.{ℕ, ◌+◌, ◌<◌, ◌-◌}
-use mathlib.Core.List.{List, []}
-use mathlib.Core.Path.{◌≡◌, sym, ap, ◌∙◌}
-use native.Mathlib.Numerals.{add-one}
+use Prim.Native.Nat.{suc}
+use mathlib.Core.List.{[]}
+use mathlib.Core.Path.{◌≡◌, ◌∙◌}
 use native.Mathlib.Omega.{arith}
-use lib.ListN.{length, get_or, drop, drop_of_length-le}
-use lib.Seq.{drop-cons}
-use borrow.Author.Rules.{rules}
-use Rattle.output.specs.Pages.{Page, page_of, with_text}
-use Rattle.output.proofs.Pages.{with_texts}
-use Rattle.sentences.specs.Filled.{part, next_after, filled_from}
+use lib.ListN.{get_or, drop, drop_of_length-le}
+use Rattle.output.specs.Pages.{with_text}
+use Rattle.sentences.specs.Filled.{filled_from}
+use Rattle.sentences.proofs.Marks.{given, at_mark, at_byte, turn}
 use Rattle.sentences.proofs.templates.fill.Goals as goal
+use Rattle.sentences.proofs.templates.fill.Goals.{then-byte-eq-MARK, else-byte-eq-MARK}
 
--- what remains, after one byte more of the template
-turn :
-    (template numbers : List ℕ) (i next : ℕ) (now then whole : Page) → i < length template
-    → then ≡ with_text now (part (get_or template i 0) (get_or numbers next 0))
-    → with_text now (filled_from next (drop i template) numbers) ≡ whole
-    → with_text then (filled_from (next_after (get_or template i 0) next) (drop (i + 1) template) numbers) ≡ whole
-unfolding filled_from
-turn template numbers i next now then whole inside put so_far =
-    rw (put, add-one)
-    (with_texts now (part (get_or template i 0) (get_or numbers next 0)) _
-    ∙ ap (λ (rest : List ℕ). with_text now (filled_from next rest numbers)) (sym (drop-cons template i 0 inside))
-    ∙ so_far)
+pub loop-byte-init : goal.loop-byte-init
+loop-byte-init g c = rw c.iter-numbers.ensures.rest
 
-pub loop-i-preserved : goal.loop-i-preserved
-loop-i-preserved c =
-    let start = c.args in (
-      search rules,
-      omega (arith, c.next_after-next.ensures.1),
-      rw c.next_after-next.ensures.0
-          (turn start.template.now start.numbers.now c.loop-i.i c.loop-i.next (page_of c.loop-i.page c.loop-i.used) _ _ (omega arith)
-          (rw c.number_at.ensures at c.put_part-used.ensures) c.loop-i.invariant.2),
-      c.put_part-used.auto.page ∙ c.loop-i.invariant.3,
-    )
+pub loop-byte-preserved : goal.loop-byte-preserved
+loop-byte-preserved g c =
+    let template = c.args.template.now in
+    let i = c.loop-byte.byte-index in
+    let later = drop (suc i) template in
+    elim c.if-byte-eq-MARK.branch [
+      | then-byte-eq-MARK w ↦
+          let numbers = c.loop-byte.numbers.rest.now in
+          let taken = given w.next.result c.loop-byte.numbers w.next.new.self w.next.ensures.steps in
+          let number : w.unwrap_or.result ≡ get_or numbers 0 0 = rw w.copied.ensures at w.unwrap_or.ensures ∙ taken.0 in
+          rw (w.page-is, w.numbers-is, taken.1)
+          (turn template i _ numbers _ c.loop-byte.page _ _ (omega arith) (at_mark _ later numbers w.if-byte-eq-MARK.true)
+          (rw number at w.put_number.ensures) c.loop-byte.invariant)
+      | else-byte-eq-MARK w ↦
+          rw (w.page-is, w.numbers-is)
+          (turn template i _ c.loop-byte.numbers.rest.now _ c.loop-byte.page _ _ (omega arith)
+          (at_byte _ later c.loop-byte.numbers.rest.now w.if-byte-eq-MARK.false) w.put_byte.ensures c.loop-byte.invariant)
+    ]
 
 pub returns : goal.returns
 unfolding with_text filled_from
-returns c =
+returns g c =
     let template = c.args.template.now in
-    let none : drop c.loop-i.i template ≡ [] = drop_of_length-le template {i = c.loop-i.i} (omega arith) in
-    rw none at c.loop-i.invariant.2
+    let none : drop c.loop-byte.byte-index template ≡ [] = drop_of_length-le template {i = c.loop-byte.byte-index} (omega arith) in
+    rw none at c.loop-byte.invariant

@@ -1,6 +1,5 @@
 -- `put_cannot_store` meets its contract: one text after another.
 -- Assumes nothing.
-use borrow.Author.Rules.{rules}
 use Rattle.output.proofs.Pages.{then}
 use Rattle.output.specs.Quoted.{bytes_of}
 use Rattle.state_files.specs.Sentences.{cannot_store}
@@ -8,4 +7,6 @@ use Rattle.state_files.proofs.unwritable.put_cannot_store.Goals as goal
 
 pub returns : goal.returns
 unfolding bytes_of cannot_store
-returns c = search (rules, then)
+returns g c =
+    then _ _ _ c.put_text.ensures
+    (then _ _ _ c.put_text-2.ensures (then _ _ _ c.put.ensures c.put_byte.ensures))

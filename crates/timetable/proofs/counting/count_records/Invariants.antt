@@ -1,7 +1,7 @@
 -- `counting::count_records` meets its contract. The loop's invariant: the records of the places passed are kept, as many packets as are
 -- counted arrived at them, and the other words are as they were.
 -- Assumes nothing.
-use Prim.Native.Nat.{ℕ, ◌≤◌, ◌-◌}
+use Prim.Native.Nat.{ℕ, ◌≤◌}
 use mathlib.Core.Path.{◌≡◌}
 use mathlib.Core.List.{List}
 use lib.ListN.{length, get_or}
@@ -11,9 +11,10 @@ use Rattle.timetable.proofs.Arrivals.{Below}
 use Rattle.timetable.proofs.counting.count_records.Given as goal
 
 abbrev pub invariant-loop-i : goal.invariant-loop-i
-invariant-loop-i l =
-    (l.i ≤ length l.classes) × (l.arrived ≤ l.i) × (length l.records ≡ length l.initial.records) × Below l.classes l.records l.i
-    × ((lengths : List ℕ) → l.arrived ≡ record_of (events_of l.classes lengths) l.i) × ((j : ℕ) → l.i ≤ j → get_or l.records j 0 ≡ get_or l.initial.records j 0)
-
-abbrev pub decreases-loop-i : goal.decreases-loop-i
-decreases-loop-i l = length l.classes - l.i
+invariant-loop-i l = record {
+  few : l.arrived ≤ l.i;
+  room : length l.records ≡ length l.initial.records;
+  kept : Below l.classes l.records l.i;
+  counted : (lengths : List ℕ) → l.arrived ≡ record_of (events_of l.classes lengths) l.i;
+  rest : (j : ℕ) → l.i ≤ j → get_or l.records j 0 ≡ get_or l.initial.records j 0;
+}

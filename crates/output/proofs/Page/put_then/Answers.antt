@@ -1,0 +1,7 @@
+-- `Page::put_then` meets its contract: one after the other.
+-- Assumes nothing.
+use Rattle.output.proofs.Pages.{then}
+use Rattle.output.proofs.Page.put_then.Goals as goal
+
+pub returns : goal.returns
+returns g c = then _ _ _ c.put_word.ensures c.put_byte.ensures
