@@ -14,7 +14,6 @@ use lib.Dec.{ltb, eqb}
 use lib.ListN.{length, get_or, take, drop, get_or-eq_default, length-take}
 use lib.Seq.{take_at, get_or-take}
 use borrow.Author.Tests.{ltb-false}
-
 use Rattle.input.specs.declared.Refusal.{Refusal}
 use Rattle.input.specs.declared.Answer.{Answer}
 use Rattle.input.specs.Classes.{Table, tree_of}
@@ -24,6 +23,7 @@ use Rattle.input.specs.Lent.{events_of, room_with}
 use Rattle.rules.specs.Outcome.{Outcome, over, room_of, refusing}
 use Rattle.laws.proofs.Tree.Trees.{given_none}
 use Rattle.tables.proofs.Firsts.{or_else_first, or_else_second}
+use Rattle.tables.specs.Judged.{Refuses}
 use Rattle.checks.specs.Counted.{SlicesOf, lengths_refused}
 use Rattle.checks.proofs.Whole.{whole_listed}
 use Rattle.engine.specs.Run.{left_of}
@@ -65,13 +65,13 @@ scan_most capture rate scan is = omega (arith, count_most capture, ap (λ (s : S
 -- ── what is refused before the packets are replayed ──
 
 -- the capture's own refusal comes first
-pub own_refused : (lent : CaptureLent) (r : Refusal) → Scans lent.capture lent.rate (Err r) → (given_answer : Answer) → given_answer ≡ answer_of r 0
-    → Replays lent (capture_left lent.list (left_of given_answer lent.order lent.report lent.lags lent.working))
+pub own_refused : (lent : CaptureLent) (r : Refusal) → Scans lent.capture lent.rate (Err r)
+    → Replays lent (capture_left lent.list (left_of (answer_of r 0) lent.order lent.report lent.lags lent.working))
 unfolding refusing run_lent
-own_refused lent r is given_answer answer_is =
+own_refused lent r is =
     let some : r.number ≢ 0 = λ none. is.0 (ap (λ (x : Refusal). x.number) (sym is.1) ∙ none) in
     let first = or_else_first (capture_refused lent.capture lent.rate) _ is.0 in
-    rw answer_is (sym (captured_refused lent r (found_first lent r (is.1 ∙ sym first) some) some))
+    sym (captured_refused lent r (found_first lent r (is.1 ∙ sym first) some) some)
 
 module _ (lent : CaptureLent) (scan : Scan) (is : Scans lent.capture lent.rate (Ok scan)) where
   abbrev list : Events
@@ -84,11 +84,11 @@ module _ (lent : CaptureLent) (scan : Scan) (is : Scans lent.capture lent.rate (
   own = capture_refused lent.capture lent.rate
 
   -- what the first look says of any lists of as many words
-  abbrev First : Refusal → Type 0
-  First r =
+  abbrev Look : (Refusal → Type 0) → Type 0
+  Look Says =
       (table : Table) (events : Events)
       → SlicesOf table events (length lent.table.identifiers) (length lent.table.parent_identifiers) (length lent.table.shares) (2 * scan.records) (2 * scan.records)
-      → r ≡ or_else (lengths_refused table events room) (list_refused (2 * scan.records) (length lent.list.classes) (length lent.list.lengths))
+      → Says (or_else (lengths_refused table events room) (list_refused (2 * scan.records) (length lent.list.classes) (length lent.list.lengths)))
 
   pub found_here : Found lent.capture scan.layout scan.records
   found_here = found lent.capture lent.rate scan is
@@ -112,24 +112,31 @@ module _ (lent : CaptureLent) (scan : Scan) (is : Scans lent.capture lent.rate (
   room_is = refl
 
   -- it is the replay's, of the list that the capture makes
-  first_is : (r : Refusal) → First r
-      → r ≡ or_else own (or_else (lengths_refused lent.table list (room_of (run_lent lent list))) (list_refused (count list) (length lent.list.classes) (length lent.list.lengths)))
-  first_is r look =
-      look lent.table list (record { rows_are = refl; parents_are = refl; shares_are = refl; events_are = count_is; lengths_are = even_is })
-      ∙ rw (room_is, count_is) (sym (or_else_second own _ is.0))
+  abbrev all : Refusal
+  all = or_else own (or_else (lengths_refused lent.table list (room_of (run_lent lent list))) (list_refused (count list) (length lent.list.classes) (length lent.list.lengths)))
+
+  all_is : or_else (lengths_refused lent.table list room) (list_refused (2 * scan.records) (length lent.list.classes) (length lent.list.lengths)) ≡ all
+  all_is = rw (room_is, count_is) (sym (or_else_second own _ is.0))
+
+  looked : (Says : Refusal → Type 0) → Look Says → Says all
+  looked Says look =
+      subst Says all_is
+      (look lent.table list (record { rows_are = refl; parents_are = refl; shares_are = refl; events_are = count_is; lengths_are = even_is }))
 
   -- refused: nothing is changed
-  pub refused_captured : (r : Refusal) → First r → r.number ≢ 0 → (given_answer : Answer) → given_answer ≡ answer_of r 0
-      → Replays lent (capture_left lent.list (left_of given_answer lent.order lent.report lent.lags lent.working))
+  pub refused_captured : (r : Refusal) → Look (λ (x : Refusal). Refuses x r)
+      → Replays lent (capture_left lent.list (left_of (answer_of r 0) lent.order lent.report lent.lags lent.working))
   unfolding refusing run_lent
-  refused_captured r look some given_answer answer_is =
-      rw answer_is (sym (captured_refused lent r (found_first lent r (first_is r look) some) some))
+  refused_captured r look =
+      let refuses : Refuses all r = looked (λ (x : Refusal). Refuses x r) look in
+      let some : r.number ≢ 0 = λ none. refuses.0 (ap (λ (x : Refusal). x.number) (sym refuses.1) ∙ none) in
+      sym (captured_refused lent r (found_first lent r refuses.1 some) some)
 
   -- not refused
-  module _ (r : Refusal) (look : First r) (none : r.number ≡ 0) where
+  module _ (look : Look (λ (x : Refusal). x.number ≡ 0)) where
     passed : (own.number ≡ 0) × ((lengths_refused lent.table list (room_of (run_lent lent list))).number ≡ 0)
         × ((list_refused (count list) (length lent.list.classes) (length lent.list.lengths)).number ≡ 0)
-    passed = none_first lent r (first_is r look) none
+    passed = none_first lent all refl (looked (λ (x : Refusal). x.number ≡ 0) look)
 
     pub lengths_pass : (lengths_refused lent.table list room).number ≡ 0
     lengths_pass = rw room_is at passed.1
@@ -190,10 +197,10 @@ module _ (capture : List ℕ) (sorting : Sorting) (lent left : Arrivals) (reads 
 
 -- ── the packets' replay ──
 
-module _ (lent : CaptureLent) (scan : Scan) (is : Scans lent.capture lent.rate (Ok scan)) (r : Refusal) (look : First lent scan is r) (none : r.number ≡ 0) where
+module _ (lent : CaptureLent) (scan : Scan) (is : Scans lent.capture lent.rate (Ok scan)) (look : Look lent scan is (λ (x : Refusal). x.number ≡ 0)) where
   pub few_records : scan.records ≤ 32768
   few_records =
-      let fine = lengths_pass lent scan is r look none in
+      let fine = lengths_pass lent scan is look in
       omega (arith, (whole_listed lent.table (captured_list lent) (room lent scan is) fine).few, counted_here)
     where
       counted_here : count (captured_list lent) ≡ 2 * scan.records
@@ -210,13 +217,13 @@ module _ (lent : CaptureLent) (scan : Scan) (is : Scans lent.capture lent.rate (
         (arrivals_read lent.capture lent.sorting before left reads scan.records (found_here lent scan is).counted)
 
     pub packets_pass : (lengths_refused lent.table (list_of (tree_of lent.table) arrivals lent.rate) (room lent scan is)).number ≡ 0
-    packets_pass = rw same_list (lengths_pass lent scan is r look none)
+    packets_pass = rw same_list (lengths_pass lent scan is look)
 
     pub packets_run : (ran : Outcome) (classes' lengths' : List ℕ)
         → Replayed (lent_with lent.table (list_of (tree_of lent.table) arrivals lent.rate) lent.order lent.report lent.lags lent.working) lent.list.classes lent.list.lengths ran classes' lengths'
         → Replays lent (capture_left (events_of classes' lengths') ran)
     packets_run ran classes' lengths' replayed =
-        run_captured lent scan is r look none ran classes' lengths'
+        run_captured lent scan is look ran classes' lengths'
         (subst
         (λ (x : Events).
         Replayed (lent_with lent.table x lent.order lent.report lent.lags lent.working) lent.list.classes lent.list.lengths ran classes' lengths')

@@ -8,7 +8,7 @@ use Rattle.std.specs.Prelude.{Result, Ok, Err}
 use Rattle.std.specs.Result.{IsErrAnd}
 use Rattle.input.specs.declared.Refusal.{Refusal}
 use Rattle.tables.specs.Answers.{refusal_of}
-use Rattle.records.specs.Judged.{Refuses, Judged}
+use Rattle.tables.specs.Judged.{Refuses, Judged}
 
 -- an error is what refuses
 pub errs : (refused r : Refusal) → r ≡ refused → r.number ≢ 0 → Refuses refused r
