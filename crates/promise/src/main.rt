@@ -9,7 +9,7 @@ mod printing;
 
 use asked::Numbers;
 use files::{Stopped, Table, argument_count, begin_refusal, complain, print_answer, say};
-use input::{Answer, MOST_EVENTS, Refusal};
+use input::{MOST_EVENTS, Refusal};
 use output::Page;
 use printing::Sheet;
 use sentences::{Columns, SENTENCE_BYTES, table_sentence};
@@ -57,16 +57,14 @@ fn with_numbers(rt: &HostRuntime, asked: Numbers) -> Result<(), Stopped> {
         parents,
         shares,
     } = columns;
-    let reading = tables::read_table(identifiers, parents, shares);
-    if reading.refusal.number != 0 {
-        return refused(rt, reading.refusal, table.rows, columns);
-    }
+    let reading = match tables::read_table(identifiers, parents, shares) {
+        Ok(reading) => reading,
+        Err(refusal) => return refused(rt, refusal, table.rows, columns),
+    };
     let sheet = Sheet {
         asked,
         identifiers,
-        parents: &reading.parents,
-        depths: &reading.depths,
-        shares: &reading.shares,
+        tree: &reading.tree,
     };
     sheet.print(rt, &reading.senders)
 }
@@ -74,16 +72,10 @@ fn with_numbers(rt: &HostRuntime, asked: Numbers) -> Result<(), Stopped> {
 // The answer of a run with this table and, once that is written, the refusal as a sentence to standard error. The count of rows is that
 // of the file, of which the columns may have less.
 fn refused(rt: &HostRuntime, refusal: Refusal, rows: u64, table: Columns) -> Result<(), Stopped> {
-    let answer = Answer {
-        number: refusal.number,
-        place: refusal.place,
-        second: refusal.second,
-        count: 0,
-    };
-    print_answer(rt, answer)?;
+    print_answer(rt, Err(refusal))?;
     let mut page: Page<SENTENCE_BYTES> = Page::blank();
-    begin_refusal(rt, &mut page, answer.number, 1);
-    table_sentence(&mut page, answer, rows, table);
+    begin_refusal(rt, &mut page, refusal.number, 1);
+    table_sentence(&mut page, refusal, rows, table);
     say(&page);
     Err(Stopped::Refused)
 }
