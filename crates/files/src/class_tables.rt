@@ -7,7 +7,7 @@ use crate::ending::begin_refusal;
 use crate::handing::{print_answer, say};
 use crate::reading::first;
 use crate::whole::load_text;
-use input::{Answer, Refusal};
+use input::Refusal;
 use output::Page;
 use sentences::{Columns, HELD_BYTES, HELD_ROWS, SENTENCE_BYTES};
 use std::rt::{Env, Files};
@@ -96,13 +96,7 @@ fn tell(
     text: &[u8],
     size: usize,
 ) -> Stopped {
-    let answer = Answer {
-        number: fault.number,
-        place: fault.place,
-        second: fault.second,
-        count: 0,
-    };
-    if let Err(stopped) = print_answer(rt, answer) {
+    if let Err(stopped) = print_answer(rt, Err(fault)) {
         return stopped;
     }
     say_fault(rt, argument, fault, text, size);

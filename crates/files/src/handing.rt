@@ -1,7 +1,7 @@
 // Handing what is put on a page over to the system.
 use crate::Stopped;
 use crate::writing::cannot_write;
-use input::Answer;
+use input::Refusal;
 use output::Page;
 
 // Standard error.
@@ -22,7 +22,7 @@ pub fn print<const N: usize>(rt: &impl Print, page: &Page<N>) -> Result<(), Stop
 }
 
 // Prints an answer's two lines.
-pub fn print_answer(rt: &impl Print, answer: Answer) -> Result<(), Stopped> {
+pub fn print_answer(rt: &impl Print, answer: Result<u32, Refusal>) -> Result<(), Stopped> {
     let mut page: Page<512> = Page::blank();
     lines::put_answer(&mut page, answer);
     print(rt, &page)

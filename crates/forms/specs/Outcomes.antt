@@ -1,5 +1,5 @@
 -- What reading and writing leave: the answer, and every word or byte of what was lent to be written. A refusal changes nothing.
-use Rattle.std.specs.Prelude.{ℕ, ◌*◌, ◌^◌, ◌<◌, ◌≡◌, Bool, true, false, cond, not, ◌&&◌, ◌||◌, Result, Ok, Err, List, [], ◌∷◌, leb, ltb, eqb, length, get_or, take, ℤ}
+use Rattle.std.specs.Prelude.{ℕ, ◌*◌, ◌^◌, ◌<◌, ◌≡◌, Bool, true, false, cond, not, ◌&&◌, ◌||◌, Result, Ok, Err, Option, Some, None, List, [], ◌∷◌, leb, ltb, eqb, length, get_or, take, ℤ}
 use Rattle.input.specs.declared.Refusal.{Refusal}
 use Rattle.input.specs.declared.Answer.{Answer}
 use Rattle.input.specs.Limits.{least_rows, most_rows, report_words}
@@ -8,7 +8,7 @@ use Rattle.input.specs.Refusals.{nothing, given, or_else, first, rows_refused, t
 use Rattle.input.specs.Lent.{table_of}
 use Rattle.rules.specs.Outcome.{over}
 use Rattle.forms.specs.declared.Counted.{Counted}
-use Rattle.forms.specs.Texts.{table_text, report_text}
+use Rattle.forms.specs.Texts.{table_text, report_text, answer_text, run_text, live_line}
 use Rattle.forms.specs.Faults.{table_in, text_refused}
 
 abbrev pub answer_of : Refusal → ℕ → Answer
@@ -18,6 +18,17 @@ answer_of refusal count = record { number = refusal.number; place = refusal.plac
 abbrev pub answered : Result ℕ Refusal → Answer
 answered (Ok count) = answer_of nothing count
 answered (Err refusal) = answer_of refusal 0
+
+-- what is printed of a run's result: of a done run the order and the report too
+abbrev pub result_text : Result ℕ Refusal → List ℕ → List ℕ → List ℕ → List ℤ → List ℕ
+result_text (Ok count) identifiers order report lags = run_text (answer_of nothing count) identifiers order report lags
+result_text (Err refusal) identifiers order report lags = answer_text (answer_of refusal 0)
+
+-- what is printed of a live box's result, which may be a packet that went on the line
+abbrev pub live_text : Result (Option ℕ) Refusal → List ℕ
+live_text (Ok None) = live_line 0 0 0 0 0
+live_text (Ok (Some packet)) = live_line 0 0 0 1 packet
+live_text (Err refusal) = live_line refusal.number refusal.place refusal.second 0 0
 
 -- ── reading a table ──
 

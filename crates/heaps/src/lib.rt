@@ -20,7 +20,7 @@ pub type Keys = [u64; MEMBERS];
 
 pub type Ties = [u32; MEMBERS];
 
-// For each heap its root, 0 where it is empty.
+// For each heap its root, 0 where it is empty: a byte each, since the memory is fixed.
 pub type Roots = [u8; HEAPS];
 
 // For each number the root of its left or right side.

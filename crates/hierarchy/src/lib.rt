@@ -66,7 +66,7 @@ pub fn finish_first(tree: &TreeArrays, rows: &mut RowArrays, k: usize)
     rows.set_head(r, 0, 0, 0);
 }
 
-// The next packet of class k, if it has one, is its head. `next` is that packet's place + 1, or 0 where there is none.
+// The next packet of class k, if it has one, is its head. `next` is that packet's place + 1, or 0 where there is none: as a head is kept.
 #[tactic(auto, using(crate::proofs::Later::renews_none, crate::proofs::Later::renews_some))]
 pub fn renew(tree: &TreeArrays, rows: &mut RowArrays, k: usize, next: u32, length: u32)
     requires k_lt_most_rows { k < most_rows }

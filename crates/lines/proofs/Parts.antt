@@ -2,12 +2,11 @@
 -- Assumes nothing.
 use Prim.Native.Nat.{ℕ, suc, ◌+◌, ◌*◌}
 use mathlib.Core.Path.{◌≡◌, sym}
-use mathlib.Core.Logic.{◌≢◌}
-use mathlib.Core.List.{List, [], ◌∷◌, ◌++◌, append_assoc, append-nil}
+use mathlib.Core.List.{List, [], ◌∷◌, ◌++◌, append_assoc}
 use Rattle.input.specs.declared.Answer.{Answer}
 use lib.IntN.{ℤ}
 use lib.ListN.{get_or, take}
-use borrow.Author.Tests.{eq-eqb, ne_eqb}
+use borrow.Author.Tests.{eq-eqb}
 use Rattle.input.specs.Limits.{report_words}
 use Rattle.output.specs.Numbers.{decimal}
 use Rattle.forms.specs.Bytes.{comma, line_end, answer_heading}
@@ -46,10 +45,6 @@ answer_parts answer = simp append_assoc
 -- ── a whole run ──
 
 module _ (answer : Answer) (identifiers order report : List ℕ) (lags : List ℤ) where
-  pub run_refused : answer.number ≢ 0 → answer_text answer ≡ run_text answer identifiers order report lags
-  unfolding run_text
-  run_refused some = rw (ne_eqb answer.number 0 some) (sym (append-nil (answer_text answer)))
-
   pub run_done :
       answer.number ≡ 0
       → answer_text answer ++ (order_text (take answer.count order) ++ report_text identifiers report lags)

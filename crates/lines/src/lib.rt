@@ -8,9 +8,9 @@ ghost use Rattle.output.specs.Pages.{Puts};
 ghost use Rattle.output.specs.Numbers.{decimal, signed};
 ghost use Rattle.forms.specs.Bytes.{comma, line_end, live_heading};
 ghost use Rattle.forms.specs.Texts as texts;
+ghost use Rattle.forms.specs.Outcomes.{answered, result_text, live_text};
 
-use input::{Answer, REPORT_WORDS};
-use live_rules::LiveAnswer;
+use input::{Answer, REPORT_WORDS, Refusal};
 use output::Page;
 
 // CR LF.
@@ -138,10 +138,32 @@ pub fn put_report<const N: usize>(
     put_report_lines(page, identifiers, report, lags);
 }
 
-// An answer's four numbers under their names.
-pub fn put_answer<const N: usize>(page: &mut Page<N>, answer: Answer)
-    ensures { Puts (texts.answer_text answer) page.old page.new }
+// The four numbers of an answer: 0 for what is done, and no count for what is refused.
+#[tactic(auto, unfolding(input::specs::Refusals::nothing))]
+fn numbers_of(answer: Result<u32, Refusal>) -> Answer
+    ensures { result ≡ answered answer }
 {
+    match answer {
+        Ok(count) => Answer {
+            number: 0,
+            place: 0,
+            second: 0,
+            count,
+        },
+        Err(refusal) => Answer {
+            number: refusal.number,
+            place: refusal.place,
+            second: refusal.second,
+            count: 0,
+        },
+    }
+}
+
+// An answer's four numbers under their names.
+pub fn put_answer<const N: usize>(page: &mut Page<N>, answer: Result<u32, Refusal>)
+    ensures { Puts (texts.answer_text (answered answer)) page.old page.new }
+{
+    let answer = numbers_of(answer);
     page.put_text(b"answer,place,second,count");
     put_end(page);
     page.put_then(answer.number, 44);
@@ -173,17 +195,17 @@ fn put_order<const N: usize>(page: &mut Page<N>, order: &[u32], count: u32)
 // All that a run comes to: the answer and, of a done one, the order and the report.
 pub fn put_run<const N: usize>(
     page: &mut Page<N>,
-    answer: Answer,
+    answer: Result<u32, Refusal>,
     identifiers: &[u32],
     order: &[u32],
     report: &[u64],
     lags: &[i64],
 )
-    ensures { Puts (texts.run_text answer identifiers.now order.now report.now lags.now) page.old page.new }
+    ensures { Puts (result_text answer identifiers.now order.now report.now lags.now) page.old page.new }
 {
     put_answer(page, answer);
-    if answer.number == 0 {
-        put_order(page, order, answer.count);
+    if let Ok(count) = answer {
+        put_order(page, order, count);
         put_report(page, identifiers, report, lags);
     }
 }
@@ -196,17 +218,29 @@ pub fn put_live_heading<const N: usize>(page: &mut Page<N>)
     put_end(page);
 }
 
-// One of its answers.
-pub fn put_live_line<const N: usize>(page: &mut Page<N>, answer: LiveAnswer)
-    ensures { Puts (texts.live_line answer.number answer.place answer.second answer.count answer.packet) page.old page.new }
+// One of its answers: what went on the line, if anything did, or the refusal.
+#[tactic(auto, unfolding(input::specs::Refusals::nothing))]
+pub fn put_live_line<const N: usize>(page: &mut Page<N>, answer: Result<Option<u32>, Refusal>)
+    ensures { Puts (live_text answer) page.old page.new }
 {
-    let LiveAnswer {
+    match answer {
+        Ok(None) => put_live_numbers(page, Ok(0), 0),
+        Ok(Some(packet)) => put_live_numbers(page, Ok(1), packet),
+        Err(refusal) => put_live_numbers(page, Err(refusal), 0),
+    }
+}
+
+// The four numbers of an answer and the packet's name.
+fn put_live_numbers<const N: usize>(page: &mut Page<N>, answer: Result<u32, Refusal>, packet: u32)
+    ensures { Puts (texts.live_line (answered answer).number (answered answer).place (answered answer).second (answered answer).count packet)
+        page.old page.new }
+{
+    let Answer {
         number,
         place,
         second,
         count,
-        packet,
-    } = answer;
+    } = numbers_of(answer);
     page.put_then(number, 44);
     page.put_then(place, 44);
     page.put_then(second, 44);

@@ -61,6 +61,7 @@ impl<const N: usize> Page<N> {
         }
     }
 
+    // Digit by digit: `write!` states what it writes only where it does not fail.
     pub fn put_number(&mut self, n: u64)
         ensures { Puts (decimal n) self.old self.new }
     {

@@ -2,12 +2,12 @@
 // the lags; to standard error it says what cannot be read or written, or what a refusal names and how to mend it.
 #![tactic(auto)]
 
-use choosing::Way;
 use files::{
     NO_FILE, Stopped, Table, argument_count, begin_refusal, complain, first, input_twice, load,
     say, status,
 };
-use input::{Answer, MOST_EVENTS, REPORT_WORDS};
+use heaps::Heaps;
+use input::{MOST_EVENTS, REPORT_WORDS, Refusal};
 use output::Page;
 use sentences::{Columns, Lists, HELD_ROWS, SENTENCE_BYTES};
 use std::process::ExitCode;
@@ -61,8 +61,7 @@ fn replay(
     let mut report = [0u64; REPORT_WORDS * HELD_ROWS];
     let mut lags = [0i64; HELD_ROWS];
     let mut working = [0u32; MOST_EVENTS];
-    let answer = engine::run(
-        Way::Heaps,
+    let answer = engine::run::<Heaps>(
         table.identifiers,
         table.parents,
         table.shares,
@@ -74,17 +73,17 @@ fn replay(
         &mut working,
     );
     print(rt, answer, table.identifiers, &order, &report, &lags)?;
-    if answer.number == 0 {
-        return Ok(());
+    if let Err(refusal) = answer {
+        explain(rt, refusal, rows, events, table, list);
+        return Err(Stopped::Refused);
     }
-    explain(rt, answer, rows, events, table, list);
-    Err(Stopped::Refused)
+    Ok(())
 }
 
 // Prints the answer and, of a done run, the results.
 fn print(
     rt: &HostRuntime,
-    answer: Answer,
+    answer: Result<u32, Refusal>,
     identifiers: &[u32],
     order: &[u32],
     report: &[u64],
@@ -98,15 +97,15 @@ fn print(
 // A refusal as a sentence, to standard error.
 fn explain(
     rt: &HostRuntime,
-    answer: Answer,
+    refusal: Refusal,
     rows: u64,
     events: u64,
     table: Columns,
     list: Lists,
 ) {
     let mut page: Page<SENTENCE_BYTES> = Page::blank();
-    begin_refusal(rt, &mut page, answer.number, file_of(answer.number));
-    sentences::sentence(&mut page, answer, rows, events, table, list);
+    begin_refusal(rt, &mut page, refusal.number, file_of(refusal.number));
+    sentences::sentence(&mut page, refusal, rows, events, table, list);
     say(&page);
 }
 

@@ -6,7 +6,7 @@ use crate::events::{put_not_sending, put_wrong_event};
 use crate::templates::fill;
 use crate::{Columns, Lists};
 use input::{
-    Answer, LEAST_ROWS, LEAST_SHARE, MOST_DEPTH, MOST_EVENTS, MOST_IDENTIFIER, MOST_ROWS, WHOLE,
+    LEAST_ROWS, LEAST_SHARE, MOST_DEPTH, MOST_EVENTS, MOST_IDENTIFIER, MOST_ROWS, Refusal, WHOLE,
     on_air,
 };
 use output::Page;
@@ -15,37 +15,37 @@ use words::{long, word};
 // Of a run.
 pub fn sentence<const N: usize>(
     page: &mut Page<N>,
-    answer: Answer,
+    refusal: Refusal,
     rows: u64,
     events: u64,
     table: Columns,
     list: Lists,
 ) {
-    match answer.number {
+    match refusal.number {
         2 => fill(
             page,
             b"the list has # events; give it at most #.\n",
             &[events, MOST_EVENTS as u64],
         ),
         3 => page.put_text(b"a slice lent for the results is too short.\n"),
-        11..=14 => of_event(page, answer, table.identifiers, list),
-        _ => table_sentence(page, answer, rows, table),
+        11..=14 => of_event(page, refusal, table.identifiers, list),
+        _ => table_sentence(page, refusal, rows, table),
     }
 }
 
 // Of a class table alone.
 pub fn table_sentence<const N: usize>(
     page: &mut Page<N>,
-    answer: Answer,
+    refusal: Refusal,
     rows: u64,
     table: Columns,
 ) {
-    match answer.number {
+    match refusal.number {
         1 => of_rows(page, rows),
-        4 | 5 | 15 => of_identifier(page, answer, table.identifiers),
+        4 | 5 | 15 => of_identifier(page, refusal, table.identifiers),
         6 => of_root(page, table),
-        7 | 8 => of_class(page, answer, table),
-        _ => of_depth(page, answer, table),
+        7 | 8 => of_class(page, refusal, table),
+        _ => of_depth(page, refusal, table),
     }
 }
 
@@ -66,12 +66,12 @@ fn of_rows<const N: usize>(page: &mut Page<N>, rows: u64) {
 }
 
 // 4, 5 and 15: 0, one that an earlier row has, and one too large.
-fn of_identifier<const N: usize>(page: &mut Page<N>, answer: Answer, identifiers: &[u32]) {
-    let row = long(answer.place);
-    let line = line_of(answer.place);
-    let earlier = long(answer.second);
-    let identifier = word(identifiers, answer.place);
-    match answer.number {
+fn of_identifier<const N: usize>(page: &mut Page<N>, refusal: Refusal, identifiers: &[u32]) {
+    let row = long(refusal.place);
+    let line = line_of(refusal.place);
+    let earlier = long(refusal.second);
+    let identifier = word(identifiers, refusal.place);
+    match refusal.number {
         4 => fill(
             page,
             b"row # (line #) has identifier 0; give it a number from 1 to #.\n",
@@ -80,7 +80,7 @@ fn of_identifier<const N: usize>(page: &mut Page<N>, answer: Answer, identifiers
         5 => fill(
             page,
             b"row # (line #) repeats identifier # of row # (line #); give one of the two another identifier.\n",
-            &[row, line, long(identifier), earlier, line_of(answer.second)],
+            &[row, line, long(identifier), earlier, line_of(refusal.second)],
         ),
         15 => fill(
             page,
@@ -126,16 +126,16 @@ fn as_a_class(parent: u64, share: u64) -> bool
 }
 
 // 7 and 8: the parent and the share of a class.
-fn of_class<const N: usize>(page: &mut Page<N>, answer: Answer, table: Columns) {
-    let row = long(answer.place);
-    let line = line_of(answer.place);
-    let class = long(word(table.identifiers, answer.place));
-    let share = long(word(table.shares, answer.place));
-    match answer.number {
+fn of_class<const N: usize>(page: &mut Page<N>, refusal: Refusal, table: Columns) {
+    let row = long(refusal.place);
+    let line = line_of(refusal.place);
+    let class = long(word(table.identifiers, refusal.place));
+    let share = long(word(table.shares, refusal.place));
+    match refusal.number {
         7 => fill(
             page,
             b"row # (line #), class #, has parent #, which is no earlier row's identifier; name the identifier of a row above it.\n",
-            &[row, line, class, long(word(table.parents, answer.place))],
+            &[row, line, class, long(word(table.parents, refusal.place))],
         ),
         8 => fill(
             page,
@@ -147,20 +147,20 @@ fn of_class<const N: usize>(page: &mut Page<N>, answer: Answer, table: Columns) 
 }
 
 // 9 and 10: a class too deep, and children with too much.
-fn of_depth<const N: usize>(page: &mut Page<N>, answer: Answer, table: Columns) {
-    match answer.number {
+fn of_depth<const N: usize>(page: &mut Page<N>, refusal: Refusal, table: Columns) {
+    match refusal.number {
         9 => fill(
             page,
             b"row # (line #), class #, has depth #; put it under a class of depth # or less.\n",
             &[
-                long(answer.place),
-                line_of(answer.place),
-                long(word(table.identifiers, answer.place)),
-                table.depth_of(answer.place),
+                long(refusal.place),
+                line_of(refusal.place),
+                long(word(table.identifiers, refusal.place)),
+                table.depth_of(refusal.place),
                 MOST_DEPTH as u64 - 1,
             ],
         ),
-        10 => of_children(page, answer.place, table),
+        10 => of_children(page, refusal.place, table),
         _ => {}
     }
 }
@@ -182,15 +182,15 @@ fn of_children<const N: usize>(page: &mut Page<N>, row: u32, table: Columns) {
 }
 
 // 11 to 14.
-fn of_event<const N: usize>(page: &mut Page<N>, answer: Answer, identifiers: &[u32], list: Lists) {
-    let event = answer.place;
+fn of_event<const N: usize>(page: &mut Page<N>, refusal: Refusal, identifiers: &[u32], list: Lists) {
+    let event = refusal.place;
     let class = word(list.classes, event);
     fill(page, b"event # (line #)", &[long(event), line_of(event)]);
-    if answer.number == 12 {
+    if refusal.number == 12 {
         of_row(page, class, row_with(identifiers, class));
         return;
     }
-    put_wrong_event(page, answer.number, class, word(list.lengths, event));
+    put_wrong_event(page, refusal.number, class, word(list.lengths, event));
 }
 
 // The row with this identifier, as far as a table can have rows; 0 past them.

@@ -4,12 +4,12 @@
 
 mod refused;
 
+use arrays::TreeArrays;
 use files::{Stopped, Table, argument_count, complain, status};
 use input::MOST_ROWS;
 use output::Page;
-use refusals::Judged;
-use refused::Refusals;
-use sentences::{Columns, HELD_ROWS};
+use refused::{give, nothing};
+use sentences::Columns;
 use std::process::ExitCode;
 
 // Room for the tree: no line has more than 56 bytes.
@@ -30,54 +30,26 @@ fn called(rt: &HostRuntime) -> Result<(), Stopped> {
     give_or_draw(rt, table.rows, table.columns())
 }
 
-// Gives all that is refused: of the table before its rows are looked at, of the rows, and of the sums. Where that is nothing, draws the
+// Gives all that is refused: of the table before its rows are looked at, or of the rows and of the sums. Where that is nothing, draws the
 // tree. The count of rows is that of the file, of which the columns may have less.
 fn give_or_draw(rt: &HostRuntime, rows: u64, table: Columns) -> Result<(), Stopped> {
     let judged = refusals::judge(table.identifiers, table.parents, table.shares);
-    let none = [0u32; 1];
-    let first = Refusals {
-        numbers: &[judged.refusal.number],
-        seconds: &none,
-    };
-    let of_rows = Refusals {
-        numbers: &judged.numbers,
-        seconds: &judged.seconds,
-    };
-    let sums = Refusals {
-        numbers: &judged.sums,
-        seconds: &none,
-    };
-    let mut page = Page::blank();
-    first.put(&mut page);
-    of_rows.put(&mut page);
-    sums.put(&mut page);
-    if page.text().is_empty() {
-        return draw(rt, table.identifiers, &judged);
+    match &judged {
+        Err(refusal) => give(rt, &[Some(*refusal)], &[], rows, table),
+        Ok(judged) if nothing(&judged.refusals) && nothing(&judged.sums) => {
+            draw(rt, table.identifiers, &judged.tree)
+        }
+        Ok(judged) => give(rt, &judged.refusals, &judged.sums, rows, table),
     }
-    files::print(rt, &page)?;
-    first.tell(rt, rows, table);
-    of_rows.tell(rt, rows, table);
-    sums.tell(rt, rows, table);
-    Err(Stopped::Refused)
 }
 
-fn draw(rt: &HostRuntime, identifiers: &[u32], judged: &Judged) -> Result<(), Stopped> {
+fn draw(rt: &HostRuntime, identifiers: &[u32], tree: &TreeArrays) -> Result<(), Stopped> {
     let mut page: Page<TREE_BYTES> = Page::blank();
-    drawing::put_tree(
-        &mut page,
-        identifiers,
-        &judged.parents,
-        &judged.depths,
-        &judged.shares,
-        rows_of(identifiers),
-    );
+    drawing::put_tree(&mut page, identifiers, tree, rows_of(identifiers));
     files::print(rt, &page)
 }
 
 // How many rows an accepted table has.
 fn rows_of(identifiers: &[u32]) -> u32 {
-    if identifiers.len() < HELD_ROWS {
-        return identifiers.len() as u32;
-    }
-    MOST_ROWS as u32
+    identifiers.len().min(MOST_ROWS) as u32
 }

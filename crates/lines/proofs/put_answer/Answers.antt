@@ -11,7 +11,8 @@ use Rattle.lines.proofs.put_answer.Goals as goal
 pub returns : goal.returns
 unfolding answer_heading bytes_of
 returns g c =
-    then _ _ _ c.put_text.ensures (then _ _ _ c.put_end.ensures (then _ _ _ c.put_then.ensures
+    rw (← c.numbers_of-answer.ensures)
+    (then _ _ _ c.put_text.ensures (then _ _ _ c.put_end.ensures (then _ _ _ c.put_then.ensures
     (then _ _ _ c.put_then-2.ensures (then _ _ _ c.put_then-3.ensures (then _ _ _ c.put_word.ensures
     c.put_end-2.ensures)))))
-    ∙ ap (with_text _) (answer_parts _)
+    ∙ ap (with_text _) (answer_parts _))
