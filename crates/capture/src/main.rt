@@ -15,8 +15,8 @@ ghost use Rattle.pcap.specs.Lists.{Stamped};
 
 use asked::argument;
 use captures::MOST_RECORDS;
-use choosing::Heaps;
 use files::{Stopped, Table, argument_count, complain, input_twice, load_capture};
+use heaps::Heaps;
 use input::{MOST_EVENTS, REPORT_WORDS, Refusal};
 use pcap::Sorting;
 use reading::read_records;

@@ -21,7 +21,7 @@ use Rattle.arrays.specs.Arrays.{tree_in}
 use Rattle.rules.specs.Outcome.{Lent, Outcome, room_of, refusing}
 use Rattle.rules.specs.Refused.{event_refused, refused}
 use Rattle.tables.specs.declared.Reading.{Reading}
-use Rattle.tables.specs.Answers.{arrays_of, accepting}
+use Rattle.tables.specs.Answers.{accepting}
 use Rattle.tables.specs.Judged.{Refuses}
 use Rattle.tables.proofs.Firsts.{or_else_second}
 use Rattle.checks.specs.Counted.{lengths_refused}
@@ -77,7 +77,7 @@ module _ (table : Table) (rows_ok : (rows_refused table).number ≡ 0) where
 
   module _ (reading : Reading) (is : reading ≡ accepting (tree_of table)) (fine : (table_refused table).number ≡ 0) where
     pub tree_same : tree_in (length table.identifiers) table.identifiers reading.tree ≡ tree_of table
-    unfolding accepting arrays_of
+    unfolding accepting
     tree_same =
         let arrays = ap (λ (r : Reading). r.tree) is in
         same_tree table reading.tree.parents reading.tree.depths reading.tree.shares (ap (λ (t : TreeArrays). t.parents) arrays)

@@ -5,7 +5,6 @@ use mathlib.Core.Path.{◌≡◌, refl, sym, ap, ◌∙◌, subst}
 use mathlib.Core.Logic.{◌≢◌}
 use mathlib.Core.Bool.{Bool, true, false, cond}
 use Rattle.std.specs.Prelude.{Result, Ok, Err}
-use Rattle.std.specs.Result.{IsErrAnd}
 use mathlib.Core.List.{List}
 use mathlib.Mathlib.Data.Bool.Basic.{or-eq-false-eq-eq-false-and-eq-false as or-is-false}
 use native.Mathlib.Decide.{dec_lt}
@@ -15,7 +14,6 @@ use lib.Dec.{ltb, eqb}
 use lib.ListN.{length, get_or, take, drop, get_or-eq_default, length-take}
 use lib.Seq.{take_at, get_or-take}
 use borrow.Author.Tests.{ltb-false}
-
 use Rattle.input.specs.declared.Refusal.{Refusal}
 use Rattle.input.specs.Classes.{Table, tree_of}
 use Rattle.input.specs.Events.{Events, count}
@@ -65,12 +63,8 @@ scan_most capture rate scan is = omega (arith, count_most capture, ap (λ (s : S
 
 -- ── what is refused before the packets are replayed ──
 
--- an error that a `?` hands on
-pub err_is : {A : Type 0} (r : Result A Refusal) (e : Refusal) → IsErrAnd r (λ x. x ≡ e) → r ≡ Err e
-err_is (Ok x) e none = absurd none
-err_is (Err x) e same = ap Err same
-
-some_of : (refused r : Refusal) → Refuses refused r → r.number ≢ 0
+-- an error has a number
+pub some_of : (refused r : Refusal) → Refuses refused r → r.number ≢ 0
 some_of refused r refuses none = refuses.0 (ap (λ (x : Refusal). x.number) (sym refuses.1) ∙ none)
 
 -- the capture's own refusal comes first

@@ -8,7 +8,8 @@ use lib.Seq.{length-take-le}
 use Rattle.input.specs.Lent.{table_of, events_of}
 use Rattle.pcap.specs.Outcomes.{CaptureLent}
 use Rattle.captures.specs.Lent.{capture_lent}
-use Rattle.captures.proofs.Whole.{err_is, scan_most, own_refused, refused_captured, found_here, classes_room, lengths_room, packets_pass, packets_run, few_records, stamps_small}
+use Rattle.tables.proofs.Judging.{err_is}
+use Rattle.captures.proofs.Whole.{scan_most, own_refused, refused_captured, found_here, classes_room, lengths_room, packets_pass, packets_run, few_records, stamps_small}
 use Rattle.captures.proofs.replay.Goals as goal
 
 pub returns-in_err-scan : goal.returns-in_err-scan

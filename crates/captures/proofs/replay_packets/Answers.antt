@@ -11,7 +11,8 @@ use Rattle.input.specs.Lent.{table_of, room_with}
 use Rattle.checks.proofs.Whole.{whole_sized, whole_rows}
 use Rattle.pcap.specs.Lists.{Arrivals, arrivals_with, list_of}
 use Rattle.captures.proofs.Packets.{few_packets, ground, table_replayed, event_replayed, list_replayed}
-use Rattle.captures.proofs.Whole.{err_is, some_of}
+use Rattle.tables.proofs.Judging.{err_is}
+use Rattle.captures.proofs.Whole.{some_of}
 use Rattle.captures.proofs.replay_packets.Goals as goal
 
 pub read_sized-requires : goal.read_sized-requires

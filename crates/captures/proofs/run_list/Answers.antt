@@ -1,7 +1,7 @@
 -- `run_list` meets its contract: the run's own outcome, and its list where it is done.
 -- Assumes nothing.
 use borrow.Author.Tests.{ne_eqb}
-use Rattle.captures.proofs.Whole.{err_is}
+use Rattle.tables.proofs.Judging.{err_is}
 use Rattle.captures.proofs.run_list.Goals as goal
 
 pub returns-in_err-sent : goal.returns-in_err-sent
