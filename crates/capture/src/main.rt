@@ -21,7 +21,6 @@ use input::{MOST_EVENTS, REPORT_WORDS, Refusal};
 use pcap::Sorting;
 use reading::read_records;
 use sentences::{Columns, HELD_ROWS};
-use std::process::ExitCode;
 
 // The bytes of a capture that are held.
 const HELD_CAPTURE: usize = 4194304;
@@ -37,8 +36,8 @@ pub struct Given<'a> {
     pub table: Columns<'a>,
 }
 
-fn main(rt: HostRuntime) -> ExitCode {
-    files::status(called(&rt))
+fn main(rt: HostRuntime) {
+    files::end_with(called(&rt));
 }
 
 // Looks at the call and goes on.

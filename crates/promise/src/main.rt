@@ -13,11 +13,10 @@ use input::{MOST_EVENTS, Refusal};
 use output::Page;
 use printing::Sheet;
 use sentences::{Columns, SENTENCE_BYTES, table_sentence};
-use std::process::ExitCode;
 use text::Field;
 
-fn main(rt: HostRuntime) -> ExitCode {
-    files::status(called(&rt))
+fn main(rt: HostRuntime) {
+    files::end_with(called(&rt));
 }
 
 // Looks at the call and goes on.
@@ -57,16 +56,20 @@ fn with_numbers(rt: &HostRuntime, asked: Numbers) -> Result<(), Stopped> {
         parents,
         shares,
     } = columns;
-    let reading = match tables::read_table(identifiers, parents, shares) {
-        Ok(reading) => reading,
-        Err(refusal) => return refused(rt, refusal, table.rows, columns),
-    };
-    let sheet = Sheet {
-        asked,
-        identifiers,
-        tree: &reading.tree,
-    };
-    sheet.print(rt, &reading.senders)
+    let read = tables::read_table(identifiers, parents, shares);
+    match &read {
+        Ok(reading) => {
+            let sheet = Sheet {
+                asked,
+                identifiers,
+                parents: &reading.tree.parents,
+                depths: &reading.tree.depths,
+                shares: &reading.tree.shares,
+            };
+            sheet.print(rt, &reading.senders)
+        }
+        Err(refusal) => refused(rt, *refusal, table.rows, columns),
+    }
 }
 
 // The answer of a run with this table and, once that is written, the refusal as a sentence to standard error. The count of rows is that

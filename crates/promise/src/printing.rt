@@ -3,7 +3,6 @@ ghost use Rattle.std.specs.Prelude.{◌≡◌, ◌*◌};
 ghost use Rattle.input.specs.Limits.{packets_a_step};
 
 use crate::asked::Numbers;
-use arrays::TreeArrays;
 use files::Stopped;
 use input::{MOST_ROWS, PACKETS_A_STEP, RowMarks, SCALE, TICKS, WHOLE};
 use output::Page;
@@ -18,7 +17,9 @@ const SHEET_BYTES: usize = 2048 * MOST_ROWS;
 pub struct Sheet<'a> {
     pub asked: Numbers,
     pub identifiers: &'a [u32],
-    pub tree: &'a TreeArrays,
+    pub parents: &'a [u32],
+    pub depths: &'a [u32],
+    pub shares: &'a [u32],
 }
 
 impl<'a> Sheet<'a> {
@@ -70,7 +71,7 @@ impl<'a> Sheet<'a> {
     // The figure after so many steps up from a row, each with so many ticks; none where the working outgrows 64 bits.
     fn after(self, steps: u32, row: u32, ticks: u64) -> Option<Fraction> {
         let Numbers { largest, own, .. } = self.asked;
-        sheet::after(steps, &self.tree.parents, &self.tree.shares, row, largest, own, ticks)
+        sheet::after(steps, self.parents, self.shares, row, largest, own, ticks)
     }
 
     // A line for each row from the class up to the root's child, as far as the working fits, and what comes of it.
@@ -79,14 +80,14 @@ impl<'a> Sheet<'a> {
             return;
         };
         let mut at = row;
-        for step in 0..word(&self.tree.depths, row) {
+        for step in 0..word(self.depths, row) {
             let next = self.after(step + 1, row, self.ticks());
             self.put_step(page, at, figure, next);
             let Some(next) = next else {
                 return;
             };
             figure = next;
-            at = word(&self.tree.parents, at);
+            at = word(self.parents, at);
         }
         page.put_text(b"  the line finishes at most ");
         put_bytes(page, figure);
@@ -105,7 +106,7 @@ impl<'a> Sheet<'a> {
         put_figure(page, before);
         page.put_text(b" + ");
         page.put_number(self.packets_bytes());
-        self.put_divided(page, word(&self.tree.shares, row));
+        self.put_divided(page, word(self.shares, row));
         put_result(page, after);
     }
 
@@ -121,8 +122,8 @@ impl<'a> Sheet<'a> {
 
     // Where no charge on the way is rounded, what comes of the steps without their ticks, as far as that fits.
     fn put_without_ticks<const N: usize>(self, page: &mut Page<N>, row: u32) {
-        let depth = word(&self.tree.depths, row);
-        if !sheet::all_divide(depth, &self.tree.parents, &self.tree.shares, row) {
+        let depth = word(self.depths, row);
+        if !sheet::all_divide(depth, self.parents, self.shares, row) {
             return;
         }
         if let Some(figure) = self.after(depth, row, 0) {

@@ -53,12 +53,11 @@ run_written-requires g c =
       bytes = bytes;
       none_spare = rw c.spare-over.ensures at c.if-over-ne0.false;
       four_words = c.if-answer-ne16.false;
-      fine = ?;
+      fine = lengths_fine lent (c.in_default.ensures _ _ (slices lent)).0;
     }
 
 pub returns : goal.returns
 returns g c =
     let lent : LentBytes = lent_bytes c.args.identifiers.now c.args.parents.now c.args.shares.now c.args.classes.now c.args.lengths.now
     c.args.order.now c.args.report.now c.args.lags.now c.args.working.now c.args.answer.now in
-    let none_spare : spare_of lent ≡ 0 = rw c.spare-over.ensures at c.if-over-ne0.false in
-    c.run_written.ensures ∙ whole_words lent none_spare c.if-answer-ne16.false
+    c.run_written.ensures ∙ whole_words lent (rw c.spare-over.ensures at c.if-over-ne0.false) c.if-answer-ne16.false
