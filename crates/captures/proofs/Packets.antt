@@ -10,7 +10,6 @@ use lib.IntN.{ℤ}
 use borrow.Author.Tests.{ne_eqb, le-ltb}
 use Rattle.std.specs.Prelude.{Result, Ok, Err}
 use Rattle.input.specs.declared.Refusal.{Refusal}
-use Rattle.input.specs.declared.Answer.{Answer}
 use Rattle.input.specs.Limits.{report_words, most_events}
 use Rattle.input.specs.Classes.{Table, Tree, tree_of}
 use Rattle.input.specs.Events.{Events, count}

@@ -1,6 +1,6 @@
 -- `replay` meets its contract: what is refused of the capture and of what is lent, or what the replay of its packets leaves.
 -- Assumes nothing.
-use Prim.Native.Nat.{ℕ, ◌≤◌}
+use Prim.Native.Nat.{◌≤◌}
 use mathlib.Core.Path.{sym}
 use native.Mathlib.Omega.{arith}
 use lib.ListN.{length}

@@ -1,11 +1,10 @@
 -- `replay_packets` meets its contract: the table's refusal, or the list's, or its run.
 -- Assumes nothing.
-use Prim.Native.Nat.{ℕ, ◌*◌, ◌≤◌}
-use mathlib.Core.Path.{sym, ap, ◌∙◌}
+use Prim.Native.Nat.{◌*◌, ◌≤◌}
+use mathlib.Core.Path.{sym}
 use native.Mathlib.Omega.{arith}
 use lib.ListN.{length}
 use lib.Seq.{length-take-le}
-use Rattle.input.specs.declared.Refusal.{Refusal}
 use Rattle.input.specs.Classes.{Table, tree_of}
 use Rattle.input.specs.Lent.{table_of, room_with}
 use Rattle.checks.proofs.Whole.{whole_sized, whole_rows}
