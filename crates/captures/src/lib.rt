@@ -1,14 +1,14 @@
 // The replay of captured packets: what is refused of the capture and of what is lent, the list that its records make, and the run of it.
 #![tactic(auto)]
 
-ghost use Rattle.std.specs.Prelude.{◌≡◌, ℕ, ◌*◌, ◌≤◌, ◌<◌, ◌^◌};
+ghost use Rattle.std.specs.Prelude.{◌≡◌, ◌≢◌, ◌*◌, ◌≤◌, ◌<◌, ◌^◌, IfErr};
 ghost use Rattle.std.proofs.Math.ListN as lists;
 ghost use Rattle.input.specs.Classes.{Table, tree_of};
 ghost use Rattle.input.specs.Events.{Events};
 ghost use Rattle.input.specs.Refusals.{or_else};
 ghost use Rattle.input.specs.Lent.{table_of, events_of, room_with};
 ghost use Rattle.tables.specs.Judged.{Judged};
-ghost use Rattle.checks.specs.Counted.{room_in, SlicesOf, lengths_refused};
+ghost use Rattle.checks.specs.Counted.{SlicesOf, lengths_refused, room_in};
 ghost use Rattle.engine.specs.Run.{lent_of, left_of, answer_of};
 ghost use Rattle.pcap.specs.Lists.{Stamped, arrivals_with, list_of};
 ghost use Rattle.pcap.specs.Outcomes as outcomes;
@@ -72,7 +72,8 @@ fn run_list<F: Finding>(
 ) -> Result<u32, Refusal>
     requires classes_room { lists.length list_classes.now ≤ lists.length classes.old }
     requires lengths_room { lists.length list_lengths.now ≤ lists.length lengths.old }
-    ensures { Replayed
+    ensures numbered { IfErr result (λ refusal. refusal.number ≢ 0) }
+    ensures replayed { Replayed
         (lent_of identifiers.now parent_identifiers.now shares.now list_classes.now list_lengths.now
         order.old report.old lags.old working.old)
         classes.old lengths.old
@@ -116,7 +117,8 @@ fn replay_packets<F: Finding>(
         (room_with (lists.length order.old) (lists.length report.old) (lists.length lags.old) (lists.length working.old))).number ≡ 0 }
     requires classes_room { 2 * lists.length stamps.now ≤ lists.length classes.old }
     requires lengths_room { 2 * lists.length stamps.now ≤ lists.length lengths.old }
-    ensures { Replayed
+    ensures numbered { IfErr result (λ refusal. refusal.number ≢ 0) }
+    ensures replayed { Replayed
         (lent_with (table_of identifiers.now parent_identifiers.now shares.now)
         (list_of (tree_of (table_of identifiers.now parent_identifiers.now shares.now)) (arrivals_with stamps.now packet_classes.now packet_lengths.now) rate)
         order.old report.old lags.old working.old)
@@ -182,7 +184,8 @@ pub fn replay<F: Finding>(
     lags: &mut [i64],
     working: &mut [u32],
 ) -> Result<u32, Refusal>
-    ensures { Replays
+    ensures numbered { IfErr result (λ refusal. refusal.number ≢ 0) }
+    ensures replayed { Replays
         (capture_lent capture.now sorting rate (table_of identifiers.now parent_identifiers.now shares.now)
         (events_of classes.old lengths.old) order.old report.old lags.old working.old)
         (capture_left (events_of classes.new lengths.new) (left_of (answer_of result) order.new report.new lags.new working.new)) }

@@ -4,6 +4,8 @@
 
 ghost use Rattle.std.specs.Prelude.{◌<◌};
 
+use arrays::TreeArrays;
+use checks::ResultRoom;
 use input::{Event, Refusal};
 use tables::Reading;
 
@@ -54,21 +56,28 @@ fn end_line() {
     io::write_all(1, b"\n");
 }
 
-fn print(r: Refusal) {
-    number(r.number);
-    number(r.place);
-    number(r.second);
+// A refusal's number, place and second place; where nothing is refused, zeros.
+fn print(refusal: Option<Refusal>) {
+    let (of, place, second) = match refusal {
+        Some(refusal) => (refusal.number, refusal.place, refusal.second),
+        None => (0, 0, 0),
+    };
+    number(of);
+    number(place);
+    number(second);
     end_line();
 }
 
-fn print_row(reading: Reading, r: usize) {
+// What was read of a row; zeros where the table is refused.
+fn print_row(read: Option<Reading>, r: usize) {
     if r < input::MOST_ROWS {
+        let tree = read.map_or(TreeArrays::zeros(), |reading| reading.tree);
         io::write_all(1, b"row");
         number(r as u32);
-        number(reading.parents[r]);
-        number(reading.depths[r]);
-        number(reading.shares[r]);
-        if reading.senders[r] {
+        number(tree.parents[r]);
+        number(tree.depths[r]);
+        number(tree.shares[r]);
+        if read.is_some_and(|reading| reading.senders[r]) {
             io::write_all(1, b" sends");
         }
         end_line();
@@ -104,55 +113,62 @@ impl Question {
         words::wide(words::word(self.list(5), place))
     }
 
+    fn room(&self) -> ResultRoom {
+        ResultRoom {
+            order: self.length(0),
+            report: self.length(1),
+            lags: self.length(2),
+            working: self.length(3),
+        }
+    }
+
     // The check of a whole input.
-    fn checked(&self) -> Refusal {
+    fn ask_check(&self) {
         let check = checks::check(
             self.list(0),
             self.list(1),
             self.list(2),
             self.list(3),
             self.list(4),
-            self.length(0),
-            self.length(1),
-            self.length(2),
-            self.length(3),
+            self.room(),
         );
-        check.reading.refusal
+        print(check.err());
     }
 
     // The check of its lengths alone.
-    fn lengths_checked(&self) -> Refusal {
-        checks::check_lengths(
+    fn ask_lengths(&self) {
+        let check = checks::check_lengths(
             self.list(0),
             self.list(1),
             self.list(2),
             self.list(3),
             self.list(4),
-            self.length(0),
-            self.length(1),
-            self.length(2),
-            self.length(3),
-        )
+            self.room(),
+        );
+        print(check.err());
     }
 
     fn ask_table(&self) {
-        let reading = tables::read_table(self.list(0), self.list(1), self.list(2));
-        print(reading.refusal);
+        let read = tables::read_table(self.list(0), self.list(1), self.list(2));
+        print(read.err());
         for row in self.list(3) {
-            print_row(reading, words::wide(*row));
+            print_row(read.ok(), words::wide(*row));
         }
     }
 
+    // The place after the last row where no row has the class.
     fn ask_row(&self, class: u32) {
+        let identifiers = self.list(1);
+        let row = tables::row_of(identifiers, class).unwrap_or(identifiers.len());
         io::write_all(1, b" ");
-        io::print_decimal(1, tables::row_of(self.list(1), class) as u64);
+        io::print_decimal(1, row as u64);
         end_line();
     }
 
     fn ask(&self) {
         match self.letter {
-            b'c' => print(self.checked()),
-            b'l' => print(self.lengths_checked()),
+            b'c' => self.ask_check(),
+            b'l' => self.ask_lengths(),
             b't' => self.ask_table(),
             b'r' => self.ask_row(self.words[0]),
             b'e' => ask_event(self.words[0], self.words[1]),

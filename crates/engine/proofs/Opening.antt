@@ -1,6 +1,6 @@
 -- The run's first state and its last: arrays of zeros, a cleared working slice, and what is read of the box then.
 -- Assumes nothing.
-use Prim.Native.Nat.{ℕ, zero, suc, ◌≤◌, ◌<◌}
+use Prim.Native.Nat.{ℕ, zero, suc, ◌<◌}
 use mathlib.Core.Path.{◌≡◌, refl, sym, ap, ◌∙◌}
 use mathlib.Core.List.{List, ◌++◌}
 use native.Mathlib.Omega.{arith}
@@ -24,9 +24,8 @@ use Rattle.counts.specs.Counts.{AtMost, most_finished, Counts}
 use Rattle.report.specs.Shown.{Shown}
 use Rattle.report.specs.Lags.{Past}
 use Rattle.events.specs.Links.{last_word, Chain}
-use Rattle.events.specs.State.{Fit, Now, Coming}
+use Rattle.events.specs.State.{Fit, Now}
 use Rattle.events.proofs.Fits.{bytes_small}
-use Rattle.engine.specs.Served.{RowsFor}
 
 -- ── a cleared slice ──
 
@@ -79,15 +78,6 @@ fresh_now Filed tree events a c lent links filed rows counts cleared =
 pub fresh_order : (tree : Tree) (events : Events) (lent : List ℕ) → lent ≡ over (after tree events 0).order lent
 unfolding after fresh over
 fresh_order tree events lent = refl
-
--- ── an event ──
-
-pub next_comes :
-    {Filed : Filing} {tree : Tree} {events : Events} {i sent : ℕ} {a : Rows} {c : CountArrays} {lasts links order : List ℕ} (rows : List ℕ)
-    → Fit tree events → RowsFor tree events rows → i < count events → count events ≤ length links → count events ≤ length order
-    → Now Filed tree events i sent a c lasts links → Coming Filed tree events i (get_or rows i 0) sent a c lasts links order
-next_comes {i} rows fit rows_for inside links_room order_room now =
-    record { fit = fit; inside = inside; row_is = rows_for i inside; links_room = links_room; order_room = order_room; now = now }
 
 -- ── after the last event ──
 

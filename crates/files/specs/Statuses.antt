@@ -1,4 +1,4 @@
--- How a program ends, and the exit status of that.
+-- How a program ends, and what it hands over for that.
 use Rattle.std.specs.Prelude.{ℕ, Bool, cond, Result, Ok, Err, ⊤}
 use Rattle.files.specs.declared.Stopped.{Stopped}
 use Rattle.files.specs.declared.Stopped.TheVariants.{Refused, Failed}
@@ -7,8 +7,8 @@ use Rattle.files.specs.declared.Stopped.TheVariants.{Refused, Failed}
 abbrev pub refused : Bool → Stopped
 refused written = cond written Refused Failed
 
--- of a program that is done or has stopped
-unfoldable pub status : Result ⊤ Stopped → ℕ
-status (Ok done) = 0
-status (Err Refused) = 1
-status (Err Failed) = 2
+-- the digits 0, 1 and 2 as bytes
+unfoldable pub digit : Result ⊤ Stopped → ℕ
+digit (Ok done) = 48
+digit (Err Refused) = 49
+digit (Err Failed) = 50

@@ -4,7 +4,8 @@ ghost use Rattle.std.specs.Prelude.{◌≤◌, length};
 use std::env::FillError;
 use std::rt::Env;
 
-// Puts an argument at the start of the bytes that are lent and answers its length, or 0 where it is missing or longer than these.
+// Puts an argument at the start of the bytes that are lent and answers its length, or 0 where it is missing or longer than these. Bytes with
+// their length, since a program has fixed memory.
 pub fn argument(rt: &impl Env, place: usize, bytes: &mut [u8]) -> usize
     ensures { result ≤ length bytes.new }
 {

@@ -1,6 +1,5 @@
 // How a program ends: what it complains of, how a refusal begins, and the status.
 ghost use Rattle.std.specs.Prelude.{◌≡◌};
-ghost use Rattle.std.specs.Process.{exit_status};
 ghost use Rattle.files.specs.Statuses as statuses;
 
 use crate::Stopped;
@@ -8,11 +7,13 @@ use crate::arguments::argument;
 use crate::handing::say_text;
 use output::Page;
 use sentences::put_refused;
-use std::process::ExitCode;
 use std::rt::Env;
 
 // No program has so many arguments.
 pub const NO_FILE: usize = usize::MAX;
+
+// Where a program that is started by a script hands over how it ended.
+const STATUS_FILENO: i32 = 3;
 
 // Says a sentence of a call that is not understood.
 pub fn complain(sentence: &[u8]) -> Stopped {
@@ -27,14 +28,19 @@ pub fn begin_refusal<const N: usize>(rt: &impl Env, page: &mut Page<N>, number: 
     put_refused(page, number, &name[..length]);
 }
 
-// The exit status of a program that ended so.
-#[tactic(auto, unfolding(crate::specs::Statuses::status))]
-pub fn status(ended: Result<(), Stopped>) -> ExitCode
-    ensures { exit_status result ≡ statuses.status ended }
+// The last act of a program: it hands over how it ended to the script that started it, and has no exit status of its own, since the script
+// tells by that whether it came so far. Whoever wants no status leaves the descriptor closed.
+pub fn end_with(ended: Result<(), Stopped>) {
+    io::write_all(STATUS_FILENO, &[digit(ended), 10]);
+}
+
+#[tactic(auto, unfolding(crate::specs::Statuses::digit))]
+fn digit(ended: Result<(), Stopped>) -> u8
+    ensures { result ≡ statuses.digit ended }
 {
     match ended {
-        Ok(()) => ExitCode::from(0),
-        Err(Stopped::Refused) => ExitCode::from(1),
-        Err(Stopped::Failed) => ExitCode::from(2),
+        Ok(()) => b'0',
+        Err(Stopped::Refused) => b'1',
+        Err(Stopped::Failed) => b'2',
     }
 }

@@ -15,7 +15,7 @@ mod writing;
 
 pub use arguments::{argument, argument_count};
 pub use class_tables::{Table, load_table, say_fault};
-pub use ending::{NO_FILE, begin_refusal, complain, status};
+pub use ending::{NO_FILE, begin_refusal, complain, end_with};
 pub use handing::{print, print_answer, say};
 pub use opening::{Opened, argument_is_input, input_twice, open, text_of, twice};
 pub use reading::{first, judged, keep, load, read_some};

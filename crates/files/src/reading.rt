@@ -137,7 +137,7 @@ fn row_of(lines: u64) -> usize
     lines.saturating_sub(2) as usize
 }
 
-// The number at its place, where the column has it.
+// The number at its place, where the column has it. By `get_mut` the proof did not close.
 pub fn keep(column: &mut [u32], place: usize, n: u32)
     ensures { column.new ≡ set column.old place n }
 {

@@ -68,7 +68,8 @@ fn read_file(rt: &(impl Files + Input), name: &[u8], text: &mut [u8]) -> io::Res
     read_all(&mut file, text)
 }
 
-// Reads until the file ends or the text is full, and then whether the file goes on. A read may give fewer bytes than it is asked for.
+// Reads until the file ends or the text is full, and then whether the file goes on. A read may give fewer bytes than it is asked for,
+// so no count of turns is known and the loop stays a `while`.
 fn read_all(file: &mut impl Read, text: &mut [u8]) -> io::Result<usize>
     ensures { Holds text.old text.new result }
 {

@@ -86,8 +86,9 @@ impl Taken {
     {
         let mut classes = [0u32; MOST_A_READ];
         let mut lengths = [0u32; MOST_A_READ];
-        let read = read_some(file, self.scan, &mut classes, &mut lengths)
-            .map_err(|error| cannot_open(name, error))?;
+        let read = read_some(file, self.scan, &mut classes, &mut lengths).map_err(
+            |error| cannot_open(name, error),
+        )?;
         match read {
             Some(scan) => {
                 let count = scan.lines.saturating_sub(1);

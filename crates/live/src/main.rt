@@ -11,11 +11,10 @@ mod refusals;
 mod reporting;
 mod states;
 
-use files::{Stopped, argument, argument_count, argument_is_input, complain, status};
-use std::process::ExitCode;
+use files::{Stopped, argument, argument_count, argument_is_input, complain, end_with};
 
-fn main(rt: HostRuntime) -> ExitCode {
-    status(called(&rt))
+fn main(rt: HostRuntime) {
+    end_with(called(&rt));
 }
 
 // Looks at the call and goes on, by its first word and by how many arguments there are, the program's own name among them.

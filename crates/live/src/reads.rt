@@ -19,12 +19,7 @@ const ANSWERS_BYTES: usize = 106 * MOST_A_READ;
 
 // The events of a list, after so many of earlier reads; answers whether one was refused. An answer is printed only once its event is in the
 // file.
-pub fn take(
-    rt: &HostRuntime,
-    list: Lists,
-    before: u64,
-    state: &mut [u64],
-) -> Result<bool, Stopped>
+pub fn take(rt: &HostRuntime, list: Lists, before: u64, state: &mut [u64]) -> Result<bool, Stopped>
     requires { state_words ≤ length state.old }
 {
     let mut page: Page<ANSWERS_BYTES> = Page::blank();

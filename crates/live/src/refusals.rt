@@ -36,13 +36,7 @@ pub fn say_unsound(rt: &HostRuntime) {
 
 // Of those events of a list that these numbers refuse, after so many of earlier reads; the line itself has identifier `root`. The heading
 // is line 1.
-pub fn say_events(
-    rt: &HostRuntime,
-    numbers: &[Option<u32>],
-    list: Lists,
-    before: u64,
-    root: u64,
-) {
+pub fn say_events(rt: &HostRuntime, numbers: &[Option<u32>], list: Lists, before: u64, root: u64) {
     let events = list.classes.iter().zip(list.lengths).zip(numbers);
     for (i, ((class, length), number)) in events.enumerate() {
         if let Some(number) = number {
@@ -61,13 +55,7 @@ fn say_event(rt: &HostRuntime, number: u32, line: u64, class: u32, length: u32, 
 }
 
 // 11 to 14, 21 and 22, after the line.
-fn put_event(
-    page: &mut Page<SENTENCE_BYTES>,
-    number: u32,
-    class: u32,
-    length: u32,
-    root: u64,
-) {
+fn put_event(page: &mut Page<SENTENCE_BYTES>, number: u32, class: u32, length: u32, root: u64) {
     match number {
         12 => {
             fill(page, b" is for class #", &[class as u64]);

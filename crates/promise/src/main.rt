@@ -9,15 +9,14 @@ mod printing;
 
 use asked::Numbers;
 use files::{Stopped, Table, argument_count, begin_refusal, complain, print_answer, say};
-use input::{Answer, MOST_EVENTS, Refusal};
+use input::{MOST_EVENTS, Refusal};
 use output::Page;
 use printing::Sheet;
 use sentences::{Columns, SENTENCE_BYTES, table_sentence};
-use std::process::ExitCode;
 use text::Field;
 
-fn main(rt: HostRuntime) -> ExitCode {
-    files::status(called(&rt))
+fn main(rt: HostRuntime) {
+    files::end_with(called(&rt));
 }
 
 // Looks at the call and goes on.
@@ -57,33 +56,29 @@ fn with_numbers(rt: &HostRuntime, asked: Numbers) -> Result<(), Stopped> {
         parents,
         shares,
     } = columns;
-    let reading = tables::read_table(identifiers, parents, shares);
-    if reading.refusal.number != 0 {
-        return refused(rt, reading.refusal, table.rows, columns);
+    let read = tables::read_table(identifiers, parents, shares);
+    match &read {
+        Ok(reading) => {
+            let sheet = Sheet {
+                asked,
+                identifiers,
+                parents: &reading.tree.parents,
+                depths: &reading.tree.depths,
+                shares: &reading.tree.shares,
+            };
+            sheet.print(rt, &reading.senders)
+        }
+        Err(refusal) => refused(rt, *refusal, table.rows, columns),
     }
-    let sheet = Sheet {
-        asked,
-        identifiers,
-        parents: &reading.parents,
-        depths: &reading.depths,
-        shares: &reading.shares,
-    };
-    sheet.print(rt, &reading.senders)
 }
 
 // The answer of a run with this table and, once that is written, the refusal as a sentence to standard error. The count of rows is that
 // of the file, of which the columns may have less.
 fn refused(rt: &HostRuntime, refusal: Refusal, rows: u64, table: Columns) -> Result<(), Stopped> {
-    let answer = Answer {
-        number: refusal.number,
-        place: refusal.place,
-        second: refusal.second,
-        count: 0,
-    };
-    print_answer(rt, answer)?;
+    print_answer(rt, Err(refusal))?;
     let mut page: Page<SENTENCE_BYTES> = Page::blank();
-    begin_refusal(rt, &mut page, answer.number, 1);
-    table_sentence(&mut page, answer, rows, table);
+    begin_refusal(rt, &mut page, refusal.number, 1);
+    table_sentence(&mut page, refusal, rows, table);
     say(&page);
     Err(Stopped::Refused)
 }

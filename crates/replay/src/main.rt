@@ -3,14 +3,13 @@
 #![tactic(auto)]
 
 use files::{
-    NO_FILE, Stopped, Table, argument_count, begin_refusal, complain, first, input_twice, load,
-    say, status,
+    NO_FILE, Stopped, Table, argument_count, begin_refusal, complain, end_with, first, input_twice,
+    load, say,
 };
 use heaps::Heaps;
 use input::{MOST_EVENTS, REPORT_WORDS, Refusal};
 use output::Page;
-use sentences::{Columns, Lists, HELD_ROWS, SENTENCE_BYTES};
-use std::process::ExitCode;
+use sentences::{Columns, HELD_ROWS, Lists, SENTENCE_BYTES};
 
 // One more than a run takes, so that it refuses a longer list.
 const HELD_EVENTS: usize = MOST_EVENTS + 1;
@@ -18,8 +17,8 @@ const HELD_EVENTS: usize = MOST_EVENTS + 1;
 // Room for the text of any run of so many events and rows (`Room: run_room` of the crate `forms`).
 const RUN_BYTES: usize = 1480252;
 
-fn main(rt: HostRuntime) -> ExitCode {
-    status(called(&rt))
+fn main(rt: HostRuntime) {
+    end_with(called(&rt));
 }
 
 // Looks at the call and goes on.

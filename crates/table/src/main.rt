@@ -5,26 +5,23 @@
 mod refused;
 
 use arrays::TreeArrays;
-use files::{Stopped, Table, argument_count, complain, status};
+use files::{Stopped, Table, argument_count, complain, end_with};
 use input::MOST_ROWS;
 use output::Page;
 use refused::{give, nothing};
 use sentences::Columns;
-use std::process::ExitCode;
 
 // Room for the tree: no line has more than 56 bytes.
 const TREE_BYTES: usize = 64 * (MOST_ROWS + 1);
 
-fn main(rt: HostRuntime) -> ExitCode {
-    status(called(&rt))
+fn main(rt: HostRuntime) {
+    end_with(called(&rt));
 }
 
 // Looks at the call and goes on.
 fn called(rt: &HostRuntime) -> Result<(), Stopped> {
     if argument_count(rt) != 2 {
-        return Err(complain(
-            b"cannot read: give a class table, table TABLE\n",
-        ));
+        return Err(complain(b"cannot read: give a class table, table TABLE\n"));
     }
     let table = Table::load(rt, 1)?;
     give_or_draw(rt, table.rows, table.columns())

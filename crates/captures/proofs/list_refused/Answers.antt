@@ -1,10 +1,10 @@
 -- `list_refused` meets its contract: each answer goes by the tests on its way.
 -- Assumes nothing.
 use mathlib.Core.Path.{refl}
-use borrow.Author.Tests.{lt-ltb, le-ltb}
-use Rattle.input.specs.Refusals.{given, nothing}
-use Rattle.pcap.specs.Outcomes.{list_refused}
 use native.Mathlib.Omega.{arith}
+use borrow.Author.Tests.{lt-ltb, le-ltb}
+use Rattle.input.specs.Refusals.{nothing, given}
+use Rattle.pcap.specs.Outcomes.{list_refused}
 use Rattle.tables.proofs.Judging.{refuses}
 use Rattle.captures.proofs.list_refused.Goals as goal
 

@@ -1,7 +1,7 @@
 -- `counts::enter` meets its contract, by what remains of the path's changes.
 -- Assumes nothing.
 use Prim.Native.Nat.{ℕ, suc, ◌+◌, ◌-◌, ◌^◌, ◌≤◌}
-use mathlib.Core.Path.{◌≡◌, ◌∙◌}
+use mathlib.Core.Path.{◌≡◌}
 use native.Mathlib.Omega.{arith}
 use lib.ListN.{get_or}
 use Rattle.words.proofs.Entries.{entry_set}
@@ -25,11 +25,5 @@ loop-preserved c =
           (omega (arith, small r inside)) (omega (arith, small i below))),
     )
 
-pub returns : goal.returns
-returns c =
-    let before = c.loop.invariant.1 in
-    let at = c.enter_at-2.ensures in
-    record {
-      bytes_stay = at.bytes_stay ∙ before.stay;
-      counted = entering_last before at (omega arith);
-    }
+pub returns-clause-counted : goal.returns-clause-counted
+returns-clause-counted c = entering_last c.loop.invariant.1 c.enter_at-2.ensures (omega arith)

@@ -1,7 +1,7 @@
 -- `counts::leave` meets its contract, by what remains of the path's changes.
 -- Assumes nothing.
 use Prim.Native.Nat.{ℕ, ◌+◌, ◌-◌, ◌*◌, ◌^◌, ◌≤◌}
-use mathlib.Core.Path.{◌≡◌, ◌∙◌}
+use mathlib.Core.Path.{◌≡◌}
 use native.Mathlib.Omega.{arith}
 use lib.ListN.{get_or}
 use Rattle.words.proofs.Entries.{entry_set}
@@ -26,12 +26,5 @@ loop-preserved c =
           (omega (arith, c.ranges.length, small r inside)) (omega (arith, small i below))),
     )
 
-pub returns : goal.returns
-returns c =
-    let before = c.loop.invariant.1 in
-    let at = c.leave_at-2.ensures in
-    record {
-      since_stays = at.since_stays ∙ before.since_stays;
-      parent_since_stays = at.parent_since_stays ∙ before.parent_since_stays;
-      counted = leaving_last before at (omega arith);
-    }
+pub returns-clause-counted : goal.returns-clause-counted
+returns-clause-counted c = leaving_last c.loop.invariant.1 c.leave_at-2.ensures (omega arith)

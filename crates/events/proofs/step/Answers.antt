@@ -3,15 +3,15 @@
 use Rattle.events.proofs.Stepping.{room, few_sent}
 use Rattle.events.proofs.step.Goals as goal
 
-pub meet-front-requires : goal.meet-front-requires
-meet-front-requires g c =
-    let (n, ids, classes, coming) = c.requires in (n, ids, classes, c.args.sent, c.args.finding.now, c.args.order.now, coming)
-
-pub up-requires : goal.up-requires
-up-requires g c =
+pub up-requires-clause-climbs : goal.up-requires-clause-climbs
+up-requires-clause-climbs g c =
     let (n, ids, classes, coming) = c.requires in
-    let fronted = c.meet-front.ensures n ids classes c.args.sent c.args.finding.now c.args.order.now coming in
-    record { climbs = (n, ids, _, fronted.climbs); inside = coming.fit.inside; leeway = fronted.leeway }
+    (n, ids, _, (c.meet-front.ensures n ids classes c.args.sent c.args.finding.now c.args.order.now coming).climbs)
+
+pub up-requires-clause-leeway : goal.up-requires-clause-leeway
+up-requires-clause-leeway g c =
+    let (n, ids, classes, coming) = c.requires in
+    (c.meet-front.ensures n ids classes c.args.sent c.args.finding.now c.args.order.now coming).leeway
 
 pub send-requires : goal.send-requires
 send-requires g c = let coming = c.requires.3 in record { order_room = room coming; events_few = few_sent coming }
