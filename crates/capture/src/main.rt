@@ -15,9 +15,9 @@ ghost use Rattle.pcap.specs.Lists.{Stamped};
 
 use asked::argument;
 use captures::MOST_RECORDS;
-use choosing::Way;
 use files::{Stopped, Table, argument_count, complain, input_twice, load_capture};
-use input::{Answer, MOST_EVENTS, REPORT_WORDS};
+use heaps::Heaps;
+use input::{MOST_EVENTS, REPORT_WORDS, Refusal};
 use pcap::Sorting;
 use reading::read_records;
 use sentences::{Columns, HELD_ROWS};
@@ -110,20 +110,23 @@ fn replay(
     requires { Stamped stamps.now × (length classes.old ≤ most_events) }
 {
     let mut order = [0u32; MOST_EVENTS];
-    let answer = run(given, classes, lengths, &mut order);
-    if answer.number == 0 {
-        return printing::print(rt, answer, given.rate, stamps, classes, lengths, &order);
+    match run(given, classes, lengths, &mut order) {
+        Ok(count) => printing::print(rt, count, given.rate, stamps, classes, lengths, &order),
+        Err(refusal) => refusals::tell(rt, refusal, given, classes, lengths),
     }
-    refusals::tell(rt, answer, given, classes, lengths)
 }
 
 // The run, whose report and lags are not printed.
-fn run(given: Given, classes: &mut [u32], lengths: &mut [u32], order: &mut [u32]) -> Answer {
+fn run(
+    given: Given,
+    classes: &mut [u32],
+    lengths: &mut [u32],
+    order: &mut [u32],
+) -> Result<u32, Refusal> {
     let mut report = [0u64; REPORT_WORDS * HELD_ROWS];
     let mut lags = [0i64; HELD_ROWS];
     let mut working = [0u32; MOST_EVENTS];
-    captures::replay(
-        Way::Heaps,
+    captures::replay::<Heaps>(
         given.capture,
         given.sorting,
         given.rate,

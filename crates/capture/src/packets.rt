@@ -3,7 +3,7 @@ ghost use Rattle.std.specs.Prelude.{◌<◌, ◌^◌};
 
 use crate::reading::{headed, number_of};
 use captures::MOST_RECORDS;
-use input::{Answer, LEAST_BYTES, MOST_BYTES};
+use input::{LEAST_BYTES, MOST_BYTES, Refusal};
 use output::Page;
 use records::{HEADER_BYTES, layout_of, offset_of, packet};
 use sentences::{Columns, Lists, fill};
@@ -23,22 +23,22 @@ struct Packet {
 
 pub fn of_packet<const N: usize>(
     page: &mut Page<N>,
-    answer: Answer,
+    refusal: Refusal,
     capture: &[u8],
     table: Columns,
     list: Lists,
 ) {
-    let record = first_refused(answer.number, table, list);
+    let record = first_refused(refusal.number, table, list);
     let at = offset(capture, record);
     let named = Packet {
         record: long(record),
         byte: at as u64,
-        event: long(answer.place),
+        event: long(refusal.place),
         class: word(list.classes, record),
         length: word(list.lengths, record),
         point: code_point(capture, at),
     };
-    put_sentence(page, answer.number, named, table.identifiers)
+    put_sentence(page, refusal.number, named, table.identifiers)
 }
 
 // The first record that this number refuses is the one that was refused: packets arrive in the order of their records, and finishes are not
@@ -57,7 +57,7 @@ fn first_refused(number: u32, table: Columns, list: Lists) -> u32 {
 // Whether this number refuses a packet, where no other did.
 fn refuses(number: u32, table: Columns, class: u32, length: u32) -> bool {
     match number {
-        11 => row_of(table.identifiers, class) == table.identifiers.len(),
+        11 => row_of(table.identifiers, class).is_none(),
         12 => sends_not(table, class),
         _ => no_packet(class, length),
     }
@@ -65,7 +65,7 @@ fn refuses(number: u32, table: Columns, class: u32, length: u32) -> bool {
 
 // Whether the class is the line itself or has classes below it.
 fn sends_not(table: Columns, class: u32) -> bool {
-    row_of(table.identifiers, class) == 0 || row_of(table.parents, class) < table.parents.len()
+    row_of(table.identifiers, class) == Some(0) || row_of(table.parents, class).is_some()
 }
 
 // Whether the class is none, or the length no packet's.
@@ -117,7 +117,10 @@ fn put_sentence<const N: usize>(
                 named.point,
             ],
         ),
-        12 => not_sending(page, named, row_of(identifiers, named.class)),
+        12 => {
+            let row = row_of(identifiers, named.class).unwrap_or(identifiers.len());
+            not_sending(page, named, row)
+        }
         _ => of_length(page, named),
     }
 }

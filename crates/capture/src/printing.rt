@@ -6,7 +6,7 @@ ghost use Rattle.pcap.specs.Lists.{Stamped};
 ghost use Rattle.timetable.specs.Free.{most_packets, most_free};
 
 use files::{Stopped, first};
-use input::{Answer, MOST_EVENTS};
+use input::MOST_EVENTS;
 use output::Page;
 use timetable::{MOST_FREE, MOST_PACKETS, PACKETS_BYTES, Packets};
 use words::long;
@@ -14,7 +14,7 @@ use words::long;
 // Prints all of it, from the records' stamps, the list that was replayed and the order of sending.
 pub fn print(
     rt: &HostRuntime,
-    answer: Answer,
+    count: u32,
     rate: u32,
     stamps: &[u64],
     classes: &[u32],
@@ -23,8 +23,8 @@ pub fn print(
 ) -> Result<(), Stopped>
     requires { Stamped stamps.now × (length classes.now ≤ most_events) }
 {
-    print_heading(rt, answer)?;
-    let count = long(answer.count);
+    print_heading(rt, count)?;
+    let count = long(count);
     let classes = first(classes, 2 * count);
     let mut records = [0u32; MOST_EVENTS + 1];
     timetable::count_records(classes, &mut records);
@@ -39,9 +39,9 @@ pub fn print(
 }
 
 // The answer's two lines and the heading.
-fn print_heading(rt: &HostRuntime, answer: Answer) -> Result<(), Stopped> {
+fn print_heading(rt: &HostRuntime, count: u32) -> Result<(), Stopped> {
     let mut page: Page<512> = Page::blank();
-    lines::put_answer(&mut page, answer);
+    lines::put_answer(&mut page, Ok(count));
     timetable::put_heading(&mut page);
     files::print(rt, &page)
 }

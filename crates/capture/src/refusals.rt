@@ -7,7 +7,7 @@ use crate::packets::of_packet;
 use crate::reading::{headed, number_of};
 use captures::MOST_RECORDS;
 use files::{NO_FILE, Stopped, begin_refusal, print_answer, say};
-use input::Answer;
+use input::Refusal;
 use output::Page;
 use pcap::Layout;
 use records::{
@@ -20,15 +20,15 @@ use words::{long, wide};
 // Prints a refusal's answer and, once that is written, says to standard error what it names. The classes and the lengths are the records'.
 pub fn tell(
     rt: &HostRuntime,
-    answer: Answer,
+    refusal: Refusal,
     given: Given,
     classes: &[u32],
     lengths: &[u32],
 ) -> Result<(), Stopped> {
-    print_answer(rt, answer)?;
+    print_answer(rt, Err(refusal))?;
     let mut page: Page<SENTENCE_BYTES> = Page::blank();
-    begin_refusal(rt, &mut page, answer.number, file_of(answer.number));
-    put_sentence(&mut page, answer, given, Lists { classes, lengths });
+    begin_refusal(rt, &mut page, refusal.number, file_of(refusal.number));
+    put_sentence(&mut page, refusal, given, Lists { classes, lengths });
     say(&page);
     Err(Stopped::Refused)
 }
@@ -42,14 +42,14 @@ fn file_of(number: u32) -> usize {
     }
 }
 
-fn put_sentence<const N: usize>(page: &mut Page<N>, answer: Answer, given: Given, list: Lists) {
+fn put_sentence<const N: usize>(page: &mut Page<N>, refusal: Refusal, given: Given, list: Lists) {
     let capture = given.capture;
-    match answer.number {
+    match refusal.number {
         2 => of_count(page, capture, given.rate),
-        11..=13 => of_packet(page, answer, capture, given.table, list),
-        30..=34 => of_header(page, answer.number, capture),
-        35..=38 => of_records(page, answer, capture),
-        _ => table_sentence(page, answer, given.rows, given.table),
+        11..=13 => of_packet(page, refusal, capture, given.table, list),
+        30..=34 => of_header(page, refusal.number, capture),
+        35..=38 => of_records(page, refusal, capture),
+        _ => table_sentence(page, refusal, given.rows, given.table),
     }
 }
 
@@ -113,22 +113,22 @@ fn of_layout<const N: usize>(page: &mut Page<N>, number: u32, capture: &[u8])
 }
 
 // 35 to 38.
-fn of_records<const N: usize>(page: &mut Page<N>, answer: Answer, capture: &[u8]) {
+fn of_records<const N: usize>(page: &mut Page<N>, refusal: Refusal, capture: &[u8]) {
     if capture.len() < HEADER_BYTES {
         return;
     }
     let layout = layout_of(capture);
-    let at = offset_of(capture, layout, wide(answer.place));
+    let at = offset_of(capture, layout, wide(refusal.place));
     if capture.len() < at {
         return;
     }
-    of_record(page, answer, capture, layout, at)
+    of_record(page, refusal, capture, layout, at)
 }
 
 // The record begins at this byte.
 fn of_record<const N: usize>(
     page: &mut Page<N>,
-    answer: Answer,
+    refusal: Refusal,
     capture: &[u8],
     layout: Layout,
     at: usize,
@@ -141,47 +141,47 @@ fn of_record<const N: usize>(
             page,
             b"record # (byte #) has # of the # bytes of a record's header; the capture is cut off there: give it whole, or without that record.\n",
             &[
-                long(answer.place),
+                long(refusal.place),
                 at as u64,
                 left as u64,
                 RECORD_BYTES as u64,
             ],
         );
     }
-    of_begun(page, answer, capture, layout, at)
+    of_begun(page, refusal, capture, layout, at)
 }
 
 // Its header is there.
 fn of_begun<const N: usize>(
     page: &mut Page<N>,
-    answer: Answer,
+    refusal: Refusal,
     capture: &[u8],
     layout: Layout,
     at: usize,
 )
     requires { at + record_bytes ≤ length capture.now }
 {
-    let number = answer.number;
+    let number = refusal.number;
     match number {
         36 => fill(
             page,
             b"record # (byte #) includes # bytes of a packet, of which # are there; the capture is cut off there: give it whole, or without that record.\n",
             &[
-                long(answer.place),
+                long(refusal.place),
                 at as u64,
                 included(capture, layout, at) as u64,
                 (capture.len() - at - RECORD_BYTES) as u64,
             ],
         ),
-        37 => of_ip(page, answer.place, at, packet(capture, layout, at)),
+        37 => of_ip(page, refusal.place, at, packet(capture, layout, at)),
         _ => fill(
             page,
             b"record # (byte #) is stamped # microseconds before the record above it; put records in the order of their stamps, say with reordercap.\n",
             &[
-                long(answer.place),
+                long(refusal.place),
                 at as u64,
                 less(
-                    stamp_above(capture, layout, answer.place),
+                    stamp_above(capture, layout, refusal.place),
                     stamp(capture, layout, at),
                 ),
             ],

@@ -8,25 +8,26 @@ use native.Mathlib.Omega.{arith}
 use lib.ListN.{length, take}
 use lib.IntN.{ℤ}
 use borrow.Author.Tests.{ne_eqb, le-ltb}
+use Rattle.std.specs.Prelude.{Result, Ok, Err}
 use Rattle.input.specs.declared.Refusal.{Refusal}
-use Rattle.input.specs.declared.Answer.{Answer}
 use Rattle.input.specs.Limits.{report_words, most_events}
 use Rattle.input.specs.Classes.{Table, Tree, tree_of}
 use Rattle.input.specs.Events.{Events, count}
 use Rattle.input.specs.Refusals.{Room, nothing, given, or_else, first, first_below, rows_refused, events_refused, room_refused, table_refused}
-use Rattle.input.specs.Lent.{events_of, room_with, tree_at}
+use Rattle.input.specs.Lent.{events_of, room_with}
+use Rattle.arrays.specs.declared.TreeArrays.{TreeArrays}
+use Rattle.arrays.specs.Arrays.{tree_in}
 use Rattle.rules.specs.Outcome.{Lent, Outcome, room_of, refusing}
 use Rattle.rules.specs.Refused.{event_refused, refused}
 use Rattle.tables.specs.declared.Reading.{Reading}
-use Rattle.tables.specs.Answers.{answer, accepting}
-use Rattle.tables.proofs.Answering.{answer_accepts}
+use Rattle.tables.specs.Answers.{accepting}
+use Rattle.tables.specs.Judged.{Refuses}
 use Rattle.tables.proofs.Firsts.{or_else_second}
 use Rattle.checks.specs.Counted.{lengths_refused}
-use Rattle.checks.proofs.Whole.{answer_refusal, by_table, whole_rows, whole_listed}
+use Rattle.checks.proofs.Whole.{by_table, whole_rows, whole_listed}
 use Rattle.checks.proofs.Rooted.{known}
-use Rattle.engine.specs.Run.{left_of}
+use Rattle.engine.specs.Run.{left_of, answer_of}
 use Rattle.engine.proofs.Accepting.{same_tree, fit}
-use Rattle.forms.specs.Outcomes.{answer_of}
 use Rattle.pcap.specs.Lists.{Arrivals, packets, list_of}
 use Rattle.pcap.proofs.Listing.{listed_count, listed_even}
 use Rattle.listing.specs.Reached.{Ground, Lists}
@@ -37,7 +38,7 @@ use Rattle.captures.proofs.Refusing.{run_refused, by_an_event}
 -- ── refused ──
 
 pub refused_replayed : (lent : Lent) (r : Refusal) → refused lent.table lent.events (room_of lent) ≡ r → r.number ≢ 0 → (classes lengths : List ℕ)
-    → Replayed lent classes lengths (left_of (answer_of r 0) lent.order lent.report lent.lags lent.working) classes lengths
+    → Replayed lent classes lengths (left_of (answer_of (Err r)) lent.order lent.report lent.lags lent.working) classes lengths
 unfolding refusing
 refused_replayed lent r is some classes lengths =
     record {
@@ -73,24 +74,19 @@ module _ (table : Table) (rows_ok : (rows_refused table).number ≡ 0) where
       )
       (unfold or_else in refl)
 
-  module _ (reading : Reading) (is : reading ≡ answer (table_refused table) (tree_of table)) (passes : reading.refusal.number ≡ 0) where
-    pub fine : (table_refused table).number ≡ 0
-    fine = rw (is, answer_refusal (table_refused table) (tree_of table)) at passes
-
-    read : reading ≡ accepting (table_refused table) (tree_of table)
-    read = is ∙ answer_accepts (table_refused table) (tree_of table) fine
-
-    pub tree_same : tree_at table.identifiers reading.parents reading.depths reading.shares ≡ tree_of table
+  module _ (reading : Reading) (is : reading ≡ accepting (tree_of table)) (fine : (table_refused table).number ≡ 0) where
+    pub tree_same : tree_in (length table.identifiers) table.identifiers reading.tree ≡ tree_of table
     unfolding accepting
     tree_same =
-        same_tree table reading.parents reading.depths reading.shares (ap (λ (r : Reading). r.parents) read) (ap (λ (r : Reading). r.depths) read)
-        (ap (λ (r : Reading). r.shares) read)
+        let arrays = ap (λ (r : Reading). r.tree) is in
+        same_tree table reading.tree.parents reading.tree.depths reading.tree.shares (ap (λ (t : TreeArrays). t.parents) arrays)
+        (ap (λ (t : TreeArrays). t.depths) arrays) (ap (λ (t : TreeArrays). t.shares) arrays)
 
-    pub ground : Ground (tree_at table.identifiers reading.parents reading.depths reading.shares) table.identifiers reading.senders
+    pub ground : Ground (tree_in (length table.identifiers) table.identifiers reading.tree) table.identifiers reading.senders
     unfolding accepting
     ground =
         let all = known table rows_ok fine in
-        rw (tree_same, ap (λ (r : Reading). r.senders) read)
+        rw (tree_same, ap (λ (r : Reading). r.senders) is)
         (record { fit = fit table (events_of [] []) _ (none_refused fine); known = all })
 
 -- ── replayed ──
@@ -114,41 +110,38 @@ module _ (table : Table) (arrivals : Arrivals) (rate : ℕ) (order report : List
     few_packets = omega (arith, list_count (tree_of table) arrivals rate, (whole_listed table list room lengths_ok).few)
 
     -- the table is refused
-    pub table_replayed : (reading : Reading) → reading ≡ answer (table_refused table) (tree_of table) → reading.refusal.number ≢ 0
-        → (given_answer : Answer) → given_answer ≡ answer_of reading.refusal 0 → (classes lengths : List ℕ)
-        → Replayed lent classes lengths (left_of given_answer order report lags working) classes lengths
-    table_replayed reading is some given_answer answer_is classes lengths =
-        let same : reading.refusal ≡ table_refused table = rw is (answer_refusal (table_refused table) (tree_of table)) in
-        rw (answer_is, same)
-        (refused_replayed lent (table_refused table) (rw room_is (by_table table list room lengths_ok (rw same at some))) (rw same at some) classes lengths)
+    pub table_replayed : (r : Refusal) → Refuses (table_refused table) r → (classes lengths : List ℕ)
+        → Replayed lent classes lengths (left_of (answer_of (Err r)) order report lags working) classes lengths
+    table_replayed r refuses classes lengths =
+        rw refuses.1 (refused_replayed lent (table_refused table) (rw room_is (by_table table list room lengths_ok refuses.0)) refuses.0 classes lengths)
 
-    module _ (reading : Reading) (is : reading ≡ answer (table_refused table) (tree_of table)) (passes : reading.refusal.number ≡ 0) where
+    module _ (reading : Reading) (is : reading ≡ accepting (tree_of table)) (fine : (table_refused table).number ≡ 0) where
       abbrev tree : Tree
-      tree = tree_at table.identifiers reading.parents reading.depths reading.shares
+      tree = tree_in (length table.identifiers) table.identifiers reading.tree
 
       same_tree_here : tree ≡ tree_of table
-      same_tree_here = tree_same table (whole_rows table list room lengths_ok) reading is passes
+      same_tree_here = tree_same table (whole_rows table list room lengths_ok) reading is fine
 
-      module _ (refusal : Refusal) (list_classes list_lengths : List ℕ) (lists : Lists tree arrivals rate refusal list_classes list_lengths) where
-        own_lists : Lists (tree_of table) arrivals rate refusal list_classes list_lengths
-        own_lists = subst (λ (t : Tree). Lists t arrivals rate refusal list_classes list_lengths) same_tree_here lists
+      module _ (result : Result (Unit {0}) Refusal) (list_classes list_lengths : List ℕ) (lists : Lists tree arrivals rate result list_classes list_lengths) where
+        own_lists : Lists (tree_of table) arrivals rate result list_classes list_lengths
+        own_lists = subst (λ (t : Tree). Lists t arrivals rate result list_classes list_lengths) same_tree_here lists
 
-        -- an event is refused
-        pub event_replayed : refusal.number ≢ 0 → (given_answer : Answer) → given_answer ≡ answer_of refusal 0 → (classes lengths : List ℕ)
-            → Replayed lent classes lengths (left_of given_answer order report lags working) classes lengths
-        event_replayed some given_answer answer_is classes lengths =
-            let ok = fine table (whole_rows table list room lengths_ok) reading is passes in
-            let same : refusal ≡ first_below (event_refused (tree_of table) list) (count list) =
-            rw (list_count (tree_of table) arrivals rate) own_lists.refusal_is in
-            rw answer_is
-            (refused_replayed lent refusal (rw room_is (by_an_event table list room lengths_ok ok (rw (← same) some) ∙ sym same)) some classes lengths)
+      -- an event is refused
+      pub event_replayed : (r : Refusal) (list_classes list_lengths : List ℕ) → Lists tree arrivals rate (Err r) list_classes list_lengths → (classes lengths : List ℕ)
+          → Replayed lent classes lengths (left_of (answer_of (Err r)) order report lags working) classes lengths
+      event_replayed r list_classes list_lengths lists classes lengths =
+          let own = own_lists (Err r) list_classes list_lengths lists in
+          let same : r ≡ first_below (event_refused (tree_of table) list) (count list) = rw (list_count (tree_of table) arrivals rate) own.1 in
+          let some : r.number ≢ 0 = λ none. own.0 (ap (λ (x : Refusal). x.number) (sym own.1) ∙ none) in
+          refused_replayed lent r (rw room_is (by_an_event table list room lengths_ok fine (rw (← same) some) ∙ sym same)) some classes lengths
 
-        -- the list is run
-        pub list_replayed : refusal.number ≡ 0 → (ran : Outcome) (classes lengths classes' lengths' : List ℕ)
-            → Replayed (lent_with table (events_of (take (2 * packets arrivals) list_classes) (take (2 * packets arrivals) list_lengths)) order report lags working) classes lengths ran classes' lengths'
-            → Replayed lent classes lengths ran classes' lengths'
-        list_replayed none ran classes lengths classes' lengths' replayed =
-            subst (λ (x : Events). Replayed (lent_with table x order report lags working) classes lengths ran classes' lengths') same replayed
-          where
-            same : events_of (take (2 * packets arrivals) list_classes) (take (2 * packets arrivals) list_lengths) ≡ list
-            same = rw (own_lists.classes_are none, own_lists.lengths_are none)
+      -- the list is run
+      pub list_replayed : (list_classes list_lengths : List ℕ) → Lists tree arrivals rate (Ok tt) list_classes list_lengths
+          → (ran : Outcome) (classes lengths classes' lengths' : List ℕ)
+          → Replayed (lent_with table (events_of (take (2 * packets arrivals) list_classes) (take (2 * packets arrivals) list_lengths)) order report lags working) classes lengths ran classes' lengths'
+          → Replayed lent classes lengths ran classes' lengths'
+      list_replayed list_classes list_lengths lists ran classes lengths classes' lengths' replayed =
+          subst (λ (x : Events). Replayed (lent_with table x order report lags working) classes lengths ran classes' lengths') same replayed
+        where
+          same : events_of (take (2 * packets arrivals) list_classes) (take (2 * packets arrivals) list_lengths) ≡ list
+          same = let own = own_lists (Ok tt) list_classes list_lengths lists in rw (own.classes_are, own.lengths_are)

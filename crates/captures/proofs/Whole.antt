@@ -4,7 +4,7 @@ use Prim.Native.Nat.{ℕ, zero, suc, ◌+◌, ◌*◌, ◌^◌, ◌≤◌, ◌<�
 use mathlib.Core.Path.{◌≡◌, refl, sym, ap, ◌∙◌, subst}
 use mathlib.Core.Logic.{◌≢◌}
 use mathlib.Core.Bool.{Bool, true, false, cond}
-use Rattle.std.specs.Prelude.{Ok, Err}
+use Rattle.std.specs.Prelude.{Result, Ok, Err}
 use mathlib.Core.List.{List}
 use mathlib.Mathlib.Data.Bool.Basic.{or-eq-false-eq-eq-false-and-eq-false as or-is-false}
 use native.Mathlib.Decide.{dec_lt}
@@ -14,20 +14,19 @@ use lib.Dec.{ltb, eqb}
 use lib.ListN.{length, get_or, take, drop, get_or-eq_default, length-take}
 use lib.Seq.{take_at, get_or-take}
 use borrow.Author.Tests.{ltb-false}
-
 use Rattle.input.specs.declared.Refusal.{Refusal}
-use Rattle.input.specs.declared.Answer.{Answer}
 use Rattle.input.specs.Classes.{Table, tree_of}
 use Rattle.input.specs.Events.{Events, count}
 use Rattle.input.specs.Refusals.{Room, or_else}
 use Rattle.input.specs.Lent.{events_of, room_with}
 use Rattle.rules.specs.Outcome.{Outcome, over, room_of, refusing}
 use Rattle.laws.proofs.Tree.Trees.{given_none}
+use Rattle.tables.specs.Judged.{Refuses, Judged}
+use Rattle.tables.proofs.Judging.{judged_as}
 use Rattle.tables.proofs.Firsts.{or_else_first, or_else_second}
 use Rattle.checks.specs.Counted.{SlicesOf, lengths_refused}
 use Rattle.checks.proofs.Whole.{whole_listed}
-use Rattle.engine.specs.Run.{left_of}
-use Rattle.forms.specs.Outcomes.{answer_of}
+use Rattle.engine.specs.Run.{left_of, answer_of}
 use Rattle.pcap.specs.declared.Sorting.{Sorting}
 use Rattle.pcap.specs.Records.{ended, records_below, most_records, record_count}
 use Rattle.pcap.specs.Faults.{capture_refused}
@@ -64,14 +63,18 @@ scan_most capture rate scan is = omega (arith, count_most capture, ap (λ (s : S
 
 -- ── what is refused before the packets are replayed ──
 
+-- an error has a number
+pub some_of : (refused r : Refusal) → Refuses refused r → r.number ≢ 0
+some_of refused r refuses none = refuses.0 (ap (λ (x : Refusal). x.number) (sym refuses.1) ∙ none)
+
 -- the capture's own refusal comes first
-pub own_refused : (lent : CaptureLent) (r : Refusal) → Scans lent.capture lent.rate (Err r) → (given_answer : Answer) → given_answer ≡ answer_of r 0
-    → Replays lent (capture_left lent.list (left_of given_answer lent.order lent.report lent.lags lent.working))
+pub own_refused : (lent : CaptureLent) (r : Refusal) → Scans lent.capture lent.rate (Err r)
+    → (r.number ≢ 0) × Replays lent (capture_left lent.list (left_of (answer_of (Err r)) lent.order lent.report lent.lags lent.working))
 unfolding refusing run_lent
-own_refused lent r is given_answer answer_is =
-    let some : r.number ≢ 0 = λ none. is.0 (ap (λ (x : Refusal). x.number) (sym is.1) ∙ none) in
+own_refused lent r is =
+    let some = some_of (capture_refused lent.capture lent.rate) r is in
     let first = or_else_first (capture_refused lent.capture lent.rate) _ is.0 in
-    rw answer_is (sym (captured_refused lent r (found_first lent r (is.1 ∙ sym first) some) some))
+    (some, sym (captured_refused lent r (found_first lent r (is.1 ∙ sym first) some) some))
 
 module _ (lent : CaptureLent) (scan : Scan) (is : Scans lent.capture lent.rate (Ok scan)) where
   abbrev list : Events
@@ -84,11 +87,11 @@ module _ (lent : CaptureLent) (scan : Scan) (is : Scans lent.capture lent.rate (
   own = capture_refused lent.capture lent.rate
 
   -- what the first look says of any lists of as many words
-  abbrev First : Refusal → Type 0
-  First r =
+  abbrev First : Result (Unit {0}) Refusal → Type 0
+  First result =
       (table : Table) (events : Events)
       → SlicesOf table events (length lent.table.identifiers) (length lent.table.parent_identifiers) (length lent.table.shares) (2 * scan.records) (2 * scan.records)
-      → r ≡ or_else (lengths_refused table events room) (list_refused (2 * scan.records) (length lent.list.classes) (length lent.list.lengths))
+      → Judged (or_else (lengths_refused table events room) (list_refused (2 * scan.records) (length lent.list.classes) (length lent.list.lengths))) tt result
 
   pub found_here : Found lent.capture scan.layout scan.records
   found_here = found lent.capture lent.rate scan is
@@ -112,24 +115,28 @@ module _ (lent : CaptureLent) (scan : Scan) (is : Scans lent.capture lent.rate (
   room_is = refl
 
   -- it is the replay's, of the list that the capture makes
-  first_is : (r : Refusal) → First r
-      → r ≡ or_else own (or_else (lengths_refused lent.table list (room_of (run_lent lent list))) (list_refused (count list) (length lent.list.classes) (length lent.list.lengths)))
-  first_is r look =
-      look lent.table list (record { rows_are = refl; parents_are = refl; shares_are = refl; events_are = count_is; lengths_are = even_is })
-      ∙ rw (room_is, count_is) (sym (or_else_second own _ is.0))
+  abbrev whole_first : Refusal
+  whole_first = or_else own (or_else (lengths_refused lent.table list (room_of (run_lent lent list))) (list_refused (count list) (length lent.list.classes) (length lent.list.lengths)))
+
+  first_is : (result : Result (Unit {0}) Refusal) → First result → Judged whole_first tt result
+  first_is result look =
+      judged_as _ whole_first tt result (rw (room_is, count_is) (sym (or_else_second own _ is.0)))
+      (look lent.table list (record { rows_are = refl; parents_are = refl; shares_are = refl; events_are = count_is; lengths_are = even_is }))
 
   -- refused: nothing is changed
-  pub refused_captured : (r : Refusal) → First r → r.number ≢ 0 → (given_answer : Answer) → given_answer ≡ answer_of r 0
-      → Replays lent (capture_left lent.list (left_of given_answer lent.order lent.report lent.lags lent.working))
+  pub refused_captured : (r : Refusal) → First (Err r)
+      → (r.number ≢ 0) × Replays lent (capture_left lent.list (left_of (answer_of (Err r)) lent.order lent.report lent.lags lent.working))
   unfolding refusing run_lent
-  refused_captured r look some given_answer answer_is =
-      rw answer_is (sym (captured_refused lent r (found_first lent r (first_is r look) some) some))
+  refused_captured r look =
+      let first = first_is (Err r) look in
+      let some = some_of whole_first r first in
+      (some, sym (captured_refused lent r (found_first lent r first.1 some) some))
 
   -- not refused
-  module _ (r : Refusal) (look : First r) (none : r.number ≡ 0) where
+  module _ (look : First (Ok tt)) where
     passed : (own.number ≡ 0) × ((lengths_refused lent.table list (room_of (run_lent lent list))).number ≡ 0)
         × ((list_refused (count list) (length lent.list.classes) (length lent.list.lengths)).number ≡ 0)
-    passed = none_first lent r (first_is r look) none
+    passed = none_first lent whole_first refl (first_is (Ok tt) look).0
 
     pub lengths_pass : (lengths_refused lent.table list room).number ≡ 0
     lengths_pass = rw room_is at passed.1
@@ -190,10 +197,10 @@ module _ (capture : List ℕ) (sorting : Sorting) (lent left : Arrivals) (reads 
 
 -- ── the packets' replay ──
 
-module _ (lent : CaptureLent) (scan : Scan) (is : Scans lent.capture lent.rate (Ok scan)) (r : Refusal) (look : First lent scan is r) (none : r.number ≡ 0) where
+module _ (lent : CaptureLent) (scan : Scan) (is : Scans lent.capture lent.rate (Ok scan)) (look : First lent scan is (Ok tt)) where
   pub few_records : scan.records ≤ 32768
   few_records =
-      let fine = lengths_pass lent scan is r look none in
+      let fine = lengths_pass lent scan is look in
       omega (arith, (whole_listed lent.table (captured_list lent) (room lent scan is) fine).few, counted_here)
     where
       counted_here : count (captured_list lent) ≡ 2 * scan.records
@@ -210,13 +217,13 @@ module _ (lent : CaptureLent) (scan : Scan) (is : Scans lent.capture lent.rate (
         (arrivals_read lent.capture lent.sorting before left reads scan.records (found_here lent scan is).counted)
 
     pub packets_pass : (lengths_refused lent.table (list_of (tree_of lent.table) arrivals lent.rate) (room lent scan is)).number ≡ 0
-    packets_pass = rw same_list (lengths_pass lent scan is r look none)
+    packets_pass = rw same_list (lengths_pass lent scan is look)
 
     pub packets_run : (ran : Outcome) (classes' lengths' : List ℕ)
         → Replayed (lent_with lent.table (list_of (tree_of lent.table) arrivals lent.rate) lent.order lent.report lent.lags lent.working) lent.list.classes lent.list.lengths ran classes' lengths'
         → Replays lent (capture_left (events_of classes' lengths') ran)
     packets_run ran classes' lengths' replayed =
-        run_captured lent scan is r look none ran classes' lengths'
+        run_captured lent scan is look ran classes' lengths'
         (subst
         (λ (x : Events).
         Replayed (lent_with lent.table x lent.order lent.report lent.lags lent.working) lent.list.classes lent.list.lengths ran classes' lengths')

@@ -1,5 +1,5 @@
 // Class tables and reports as comma-separated lines, each ended by CR LF: reading a table's text, writing a table, and writing a report
-// with its lags.
+// with its lags. A table's slices stand one by one, as the run and C are lent them.
 #![tactic(auto)]
 
 mod places;

@@ -21,19 +21,18 @@ use Rattle.laws.proofs.Tree.Trees.{share_whole, first_none, given_none, place_mo
 use Rattle.laws.proofs.Event.Outset.{zeros_at}
 use Rattle.report.specs.Shown.{Sending}
 use Rattle.tables.specs.Sized.{Sized}
-use Rattle.tables.specs.Answers.{senders_below}
+use Rattle.tables.specs.Answers.{arrays_of, senders_below}
 use Rattle.checks.specs.Counted.{lengths_refused}
 use Rattle.tables.proofs.Firsts.{or_else_second}
 use Rattle.tables.proofs.Answering.{sized}
 use Rattle.checks.proofs.Rooted.{known}
 use Rattle.checks.proofs.Whole.{whole_listed}
-use Rattle.input.specs.Lent.{tree_at}
+use Rattle.arrays.specs.declared.TreeArrays.{TreeArrays}
+use Rattle.arrays.specs.Arrays.{tree_in}
 use Rattle.events.specs.State.{Fit}
 
-tree_parts : (t : Tree) (n : ℕ) (identifiers parents depths shares : List ℕ) → n ≡ t.rows → identifiers ≡ t.identifiers → parents ≡ t.parents
-    → depths ≡ t.depths → shares ≡ t.shares
-    → ◌≡◌ {A = Tree} (record { rows = n; identifiers = identifiers; parents = parents; depths = depths; shares = shares }) t
-tree_parts t n identifiers parents depths shares r i p d s = rw (r, i, p, d, s)
+tree_parts : (t : Tree) (n : ℕ) (identifiers : List ℕ) → n ≡ t.rows → identifiers ≡ t.identifiers → tree_in n identifiers (arrays_of t) ≡ t
+tree_parts t n identifiers r i = rw (r, i)
 
 -- ── a table as it is read ──
 
@@ -62,9 +61,8 @@ module _ (table : Table) where
   rows = length table.identifiers
 
   -- the arrays of a table that was read are its tree
-  pub same_tree : (parents depths shares : List ℕ) → parents ≡ (tree_of table).parents → depths ≡ (tree_of table).depths → shares ≡ (tree_of table).shares
-      → tree_at table.identifiers parents depths shares ≡ tree_of table
-  same_tree parents depths shares p d s = tree_parts (tree_of table) rows table.identifiers parents depths shares (sym (tree_rows table)) (sym (tree_names table)) p d s
+  pub same_tree : (t : TreeArrays) → t ≡ arrays_of (tree_of table) → tree_in rows table.identifiers t ≡ tree_of table
+  same_tree t same = rw same (tree_parts (tree_of table) rows table.identifiers (sym (tree_rows table)) (sym (tree_names table)))
 
   module _ (few : rows ≤ most_rows) where
     parent_low : (r : ℕ) → r < rows → get_or (tree_of table).parents r 0 ≤ r

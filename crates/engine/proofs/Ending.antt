@@ -15,7 +15,6 @@ use Rattle.input.specs.Refusals.{Room}
 use Rattle.rules.specs.Refused.{refused}
 use Rattle.rules.specs.Outcome.{Lent, over, room_of, refusing, doing, outcome, Ran}
 use Rattle.input.proofs.EventRows.{row_at}
-use Rattle.arrays.specs.declared.TreeArrays.{TreeArrays}
 use Rattle.arrays.specs.Arrays.{tree_in}
 use Rattle.report.specs.Shown.{Sending}
 use Rattle.tables.specs.declared.Reading.{Reading}
@@ -43,10 +42,7 @@ module _
 
   tree_is : tree ≡ tree_of table
   unfolding accepting
-  tree_is =
-      let arrays = ap (λ (r : Reading). r.tree) reading_is in
-      same_tree table check.reading.tree.parents check.reading.tree.depths check.reading.tree.shares (ap (λ (t : TreeArrays). t.parents) arrays)
-      (ap (λ (t : TreeArrays). t.depths) arrays) (ap (λ (t : TreeArrays). t.shares) arrays)
+  tree_is = same_tree table check.reading.tree (ap (λ (r : Reading). r.tree) reading_is)
 
   pub fit_is : Fit tree events
   fit_is = rw tree_is (fit table events room passed)

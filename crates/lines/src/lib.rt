@@ -1,4 +1,4 @@
-// Lines of text, put on a page.
+// Lines of text, put on a page. The slices of a table and of a report stand one by one, as the run and C are lent them.
 #![tactic(auto)]
 
 ghost use Rattle.std.specs.Prelude.{◌≡◌, [], ◌∷◌, ◌++◌, ◌+◌, ◌*◌, length, get_or, take, pos};

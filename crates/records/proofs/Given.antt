@@ -1,4 +1,4 @@
--- The first of some tests, each given a number: the next one holds, or it does not.
+-- The first of some tests, each given a number: the next one holds, or it does not; and another refusal that is the same.
 -- Assumes nothing.
 use Prim.Native.Nat.{ℕ}
 use mathlib.Core.Path.{◌≡◌, refl}
@@ -9,6 +9,7 @@ use borrow.Author.Tests.{ne_eqb}
 use Rattle.input.specs.declared.Refusal.{Refusal}
 use Rattle.input.specs.Refusals.{nothing, given, or_else, first}
 use Rattle.tables.specs.Answers.{refusal_of}
+use Rattle.tables.specs.Judged.{Refuses}
 
 module _ (test : Bool) (number place : ℕ) (later : List Refusal) where
   pub holds : test ≡ true → number ≢ 0 → first (given test number place ∷ later) ≡ refusal_of number place 0
@@ -22,3 +23,7 @@ module _ (test : Bool) (number place : ℕ) (later : List Refusal) where
 pub fails_last : (test : Bool) (number place : ℕ) → test ≡ false → first (given test number place ∷ []) ≡ nothing
 unfolding first
 fails_last test number place test_false = fails test number place [] test_false
+
+-- another refusal that is the same
+pub refuses_as : (one other r : Refusal) → one ≡ other → Refuses one r → Refuses other r
+refuses_as one other r same refused = rw (← same) refused

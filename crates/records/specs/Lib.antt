@@ -1,4 +1,3 @@
 -- What the contracts on captures state.
-pub mod Judged
 pub mod Scans
 pub mod Reads

@@ -6,7 +6,7 @@ use Rattle.pcap.specs.Headers.{layout_of}
 use Rattle.pcap.specs.Records.{offset, record_count, stamp}
 use Rattle.pcap.specs.Faults.{capture_refused}
 use Rattle.records.specs.declared.Scan.{Scan}
-use Rattle.records.specs.Judged.{Judged}
+use Rattle.tables.specs.Judged.{Judged}
 
 -- ── the answer ──
 

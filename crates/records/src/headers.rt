@@ -3,7 +3,7 @@ ghost use Rattle.std.specs.Prelude.{◌≡◌, true, false, ◌||◌, ◌≤◌,
 ghost use Rattle.pcap.specs.Headers as headers;
 ghost use Rattle.pcap.specs.Headers.{header_bytes};
 ghost use Rattle.pcap.specs.Faults.{header_refused};
-ghost use Rattle.records.specs.Judged.{Judged};
+ghost use Rattle.tables.specs.Judged.{Judged};
 
 use crate::numbers::{half, word};
 use crate::{HEADER_BYTES, MAJOR_VERSION, MICRO_MAGIC, MINOR_VERSION, NANO_MAGIC, RAW_IP};

@@ -3,7 +3,7 @@ ghost use Rattle.std.specs.Prelude.{◌≡◌, ◌≤◌, ◌<◌, ◌^◌, leng
 ghost use Rattle.pcap.specs.Headers.{header_bytes, layout_of};
 ghost use Rattle.pcap.specs.Faults.{records_refused};
 ghost use Rattle.pcap.specs.Faults as faults;
-ghost use Rattle.records.specs.Judged.{Judged};
+ghost use Rattle.tables.specs.Judged.{Judged};
 ghost use Rattle.records.specs.Scans.{Next, scan_of, Scans};
 
 use crate::fields::{included, stamp};

@@ -19,7 +19,7 @@ struct Stop {
     scan: Scan,
 }
 
-// A fault with this number in this line of a text.
+// A fault with this number, one of the rules' own, in this line of a text.
 pub fn fault_sentence<const N: usize>(page: &mut Page<N>, number: u32, line: u32, text: &[u8]) {
     match number {
         40 => fill(

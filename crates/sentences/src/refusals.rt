@@ -12,7 +12,7 @@ use input::{
 use output::Page;
 use words::{long, word};
 
-// Of a run.
+// Of a run. Refusals go by their numbers, which are the rules' own.
 pub fn sentence<const N: usize>(
     page: &mut Page<N>,
     refusal: Refusal,
@@ -80,7 +80,13 @@ fn of_identifier<const N: usize>(page: &mut Page<N>, refusal: Refusal, identifie
         5 => fill(
             page,
             b"row # (line #) repeats identifier # of row # (line #); give one of the two another identifier.\n",
-            &[row, line, long(identifier), earlier, line_of(refusal.second)],
+            &[
+                row,
+                line,
+                long(identifier),
+                earlier,
+                line_of(refusal.second),
+            ],
         ),
         15 => fill(
             page,
@@ -182,7 +188,12 @@ fn of_children<const N: usize>(page: &mut Page<N>, row: u32, table: Columns) {
 }
 
 // 11 to 14.
-fn of_event<const N: usize>(page: &mut Page<N>, refusal: Refusal, identifiers: &[u32], list: Lists) {
+fn of_event<const N: usize>(
+    page: &mut Page<N>,
+    refusal: Refusal,
+    identifiers: &[u32],
+    list: Lists,
+) {
     let event = refusal.place;
     let class = word(list.classes, event);
     fill(page, b"event # (line #)", &[long(event), line_of(event)]);

@@ -1,13 +1,15 @@
 -- `first_refused` meets its contract: its parts are the definitions', in their order.
 -- Assumes nothing.
-use mathlib.Core.Path.{ap₂, ◌∙◌}
-use Rattle.input.specs.Refusals.{or_else}
 use native.Mathlib.Omega.{arith}
+use Rattle.tables.proofs.Judging.{handed, at_first, at_second}
 use Rattle.captures.proofs.first_refused.Goals as goal
 
-pub check_counts-unfit-requires : goal.check_counts-unfit-requires
-check_counts-unfit-requires c = omega arith
+pub check_counts-requires : goal.check_counts-requires
+check_counts-requires c = omega arith
+
+pub returns-in_err-check_counts : goal.returns-in_err-check_counts
+returns-in_err-check_counts c table list slices =
+    handed _ tt c.from_residual.result _ c.from_residual.ensures.1 (at_first _ _ _ (c.in_err-check_counts.ensures table list slices))
 
 pub returns : goal.returns
-returns c table list slices =
-    c.or_else.ensures ∙ ap₂ or_else (c.check_counts-unfit.ensures table list slices) c.list_refused.ensures
+returns c table list slices = at_second _ _ tt c.list_refused.result (c.in_ok-check_counts.ensures table list slices).0 c.list_refused.ensures

@@ -12,14 +12,14 @@ use Rattle.input.specs.declared.Refusal.{Refusal}
 use Rattle.input.specs.Refusals.{nothing, given, or_else, first}
 use Rattle.pcap.specs.Headers.{header_bytes, major_version, minor_version, raw_ip, word_at, half_at}
 use Rattle.pcap.specs.Faults.{header_refused}
-use Rattle.records.proofs.Judging.{refuses}
+use Rattle.tables.proofs.Judging.{refuses}
 use Rattle.records.proofs.headers.header_refused.Goals as goal
 
 pub returns-then-rate-eq0 : goal.returns-then-rate-eq0
 unfolding header_refused first or_else given nothing
 returns-then-rate-eq0 c =
     let whole : c.refusal.result ≡ header_refused c.args.capture.now c.args.rate = rw (eq-eqb c.args.rate 0 c.if-rate-eq0.true) c.refusal.ensures in
-    refuses c.refusal.ensures (omega arith) whole
+    refuses c.refusal.ensures (omega arith) (sym whole ∙ c.refusal.ensures)
 
 pub returns-then-capture-lt-HEADER_BYTES : goal.returns-then-capture-lt-HEADER_BYTES
 unfolding header_refused first or_else given nothing
@@ -28,7 +28,7 @@ returns-then-capture-lt-HEADER_BYTES c =
     let whole : c.refusal-then-capture-lt-HEADER_BYTES.result ≡ header_refused a.capture.now a.rate =
     rw (ne_eqb a.rate 0 c.if-rate-eq0.false, lt-ltb (length a.capture.now) header_bytes c.if-capture-lt-HEADER_BYTES.true)
     c.refusal-then-capture-lt-HEADER_BYTES.ensures in
-    refuses c.refusal-then-capture-lt-HEADER_BYTES.ensures (omega arith) whole
+    refuses c.refusal-then-capture-lt-HEADER_BYTES.ensures (omega arith) (sym whole ∙ c.refusal-then-capture-lt-HEADER_BYTES.ensures)
 
 pub returns-then-not-any_magic : goal.returns-then-not-any_magic
 unfolding header_refused first or_else given nothing
@@ -42,7 +42,7 @@ returns-then-not-any_magic c =
       c.if-not-any_magic.true,
     )
     c.refusal-then-not-any_magic.ensures in
-    refuses c.refusal-then-not-any_magic.ensures (omega arith) whole
+    refuses c.refusal-then-not-any_magic.ensures (omega arith) (sym whole ∙ c.refusal-then-not-any_magic.ensures)
 
 pub returns-then-half-ne-MAJOR_VERSION : goal.returns-then-half-ne-MAJOR_VERSION
 unfolding first or_else given nothing header_refused
@@ -65,8 +65,7 @@ returns-then-half-ne-MAJOR_VERSION c =
     refl in
     let half = c.half in
     refuses c.refusal-then-half-ne-MAJOR_VERSION.ensures (omega arith)
-    (c.refusal-then-half-ne-MAJOR_VERSION.ensures
-    ∙ sym (past_magic ∙ rw (← half.ensures, ne_eqb half.result major_version c.if-half-ne-MAJOR_VERSION.true) refl))
+    (past_magic ∙ rw (← half.ensures, ne_eqb half.result major_version c.if-half-ne-MAJOR_VERSION.true) refl)
 
 pub returns-then-half-ne-MINOR_VERSION : goal.returns-then-half-ne-MINOR_VERSION
 unfolding first or_else given nothing header_refused
@@ -89,8 +88,6 @@ returns-then-half-ne-MINOR_VERSION c =
     refl in
     let minor = c.half-2 in
     refuses c.refusal-then-half-ne-MINOR_VERSION.ensures (omega arith)
-    (c.refusal-then-half-ne-MINOR_VERSION.ensures
-    ∙ sym
     (past_magic
     ∙ rw (
       ← c.half.ensures,
@@ -98,7 +95,7 @@ returns-then-half-ne-MINOR_VERSION c =
       ← minor.ensures,
       ne_eqb minor.result minor_version c.if-half-ne-MINOR_VERSION.true,
     )
-    refl))
+    refl)
 
 pub returns-then-word-ne-RAW_IP : goal.returns-then-word-ne-RAW_IP
 unfolding first or_else given nothing header_refused
@@ -130,8 +127,7 @@ returns-then-word-ne-RAW_IP c =
     )
     refl in
     refuses c.refusal-then-word-ne-RAW_IP.ensures (omega arith)
-    (c.refusal-then-word-ne-RAW_IP.ensures
-    ∙ sym (past_version ∙ rw (ne_eqb c.word.result raw_ip c.if-word-ne-RAW_IP.true) refl))
+    (past_version ∙ rw (ne_eqb c.word.result raw_ip c.if-word-ne-RAW_IP.true) refl)
 
 pub returns : goal.returns
 unfolding first or_else given nothing header_refused

@@ -13,7 +13,7 @@ use Rattle.pcap.specs.Headers.{record_bytes}
 use Rattle.pcap.specs.Records.{packet_at, stamp_at}
 use Rattle.pcap.specs.Faults.{not_ipv4, begun_refused}
 use Rattle.records.proofs.Given.{holds, fails, fails_last}
-use Rattle.records.proofs.Judging.{refuses}
+use Rattle.tables.proofs.Judging.{refuses}
 use Rattle.records.proofs.Laid.{packet_length, in_order}
 use Rattle.records.proofs.scanning.begun_refused.Goals as goal
 
@@ -21,8 +21,7 @@ pub returns-then-left-lt-RECORD_BYTES : goal.returns-then-left-lt-RECORD_BYTES
 unfolding begun_refused
 returns-then-left-lt-RECORD_BYTES c =
     let short = lt-ltb (length c.args.capture.now - c.args.at) record_bytes c.if-left-lt-RECORD_BYTES.true in
-    let whole : c.refusal.result ≡ begun_refused c.args.capture.now c.args.k = rw (← c.requires.begins, ← c.record_place-place.ensures.0) (c.refusal.ensures ∙ sym (holds _ 35 _ _ short (omega arith))) in
-    refuses c.refusal.ensures (omega arith) whole
+    refuses c.refusal.ensures (omega arith) (rw (← c.requires.begins, ← c.record_place-place.ensures.0) (holds _ 35 _ _ short (omega arith)))
 
 pub returns-then-left-included : goal.returns-then-left-included
 unfolding begun_refused
@@ -44,7 +43,7 @@ returns-then-left-included c =
       ← c.included.ensures.1 c.requires.laid,
     )
     (fails _ 35 _ _ (le-ltb (length capture - at) record_bytes c.if-left-lt-RECORD_BYTES.false)) in
-    refuses c.refusal-then-left-included.ensures (omega arith) (c.refusal-then-left-included.ensures ∙ sym (past_header ∙ holds _ 36 _ _ (lt-ltb left c.included.result c.if-left-included.true) (omega arith)))
+    refuses c.refusal-then-left-included.ensures (omega arith) (past_header ∙ holds _ 36 _ _ (lt-ltb left c.included.result c.if-left-included.true) (omega arith))
 
 pub returns-then-not_ipv4 : goal.returns-then-not_ipv4
 unfolding begun_refused
@@ -78,7 +77,7 @@ returns-then-not_ipv4 c =
     c.not_ipv4.ensures ∙ ap (λ (packet : List ℕ). not_ipv4 (length packet) packet) (c.packet.ensures laid)
     ∙ ap (λ (n : ℕ). not_ipv4 n (packet_at capture at)) whole
     in
-    past_header ∙ fails _ 36 _ _ (le-ltb left bytes.result room) ∙ rw (← judged) refl in refuses c.refusal-then-not_ipv4.ensures (omega arith) (c.refusal-then-not_ipv4.ensures ∙ sym (past_packet ∙ holds _ 37 _ _ c.if-not_ipv4.true (omega arith)))
+    past_header ∙ fails _ 36 _ _ (le-ltb left bytes.result room) ∙ rw (← judged) refl in refuses c.refusal-then-not_ipv4.ensures (omega arith) (past_packet ∙ holds _ 37 _ _ c.if-not_ipv4.true (omega arith))
 
 pub returns-then-stamp-last : goal.returns-then-stamp-last
 unfolding begun_refused
@@ -118,7 +117,7 @@ returns-then-stamp-last c =
     let past_ipv4 : begun_refused capture c.args.k
     ≡ first (given (ltb (stamp_at capture at) last) 38 place ∷ []) = past_packet ∙ fails _ 37 _ _ c.if-not_ipv4.false in
     let late = sym stamped ∙ lt-ltb c.stamp.result last c.if-stamp-last.true in
-    refuses c.refusal-then-stamp-last.ensures (omega arith) (c.refusal-then-stamp-last.ensures ∙ sym (past_ipv4 ∙ holds _ 38 _ _ late (omega arith)))
+    refuses c.refusal-then-stamp-last.ensures (omega arith) (past_ipv4 ∙ holds _ 38 _ _ late (omega arith))
 
 pub returns : goal.returns
 unfolding begun_refused nothing

@@ -2,7 +2,8 @@
 -- Assumes nothing.
 use mathlib.Core.Path.{sym}
 use Rattle.pcap.specs.Faults.{capture_refused}
-use Rattle.records.proofs.Judging.{refuses_as, judged_as, handed}
+use Rattle.tables.proofs.Judging.{judged_as, handed}
+use Rattle.records.proofs.Given.{refuses_as}
 use Rattle.records.proofs.Answering.{headed, by_header, by_records}
 use Rattle.records.proofs.scanning.check.Goals as goal
 

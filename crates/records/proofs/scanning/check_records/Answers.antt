@@ -13,7 +13,8 @@ use Rattle.pcap.specs.Headers.{record_bytes}
 use Rattle.pcap.specs.Records.{offset, record_count}
 use Rattle.pcap.specs.Faults.{begun_refused, records_refused}
 use Rattle.records.specs.Scans.{stamp_before, Next}
-use Rattle.records.proofs.Judging.{refuses_as, handed}
+use Rattle.tables.proofs.Judging.{handed}
+use Rattle.records.proofs.Given.{refuses_as}
 use Rattle.records.proofs.Passing.{offset_least, Whole, whole, passed_none, passed_more, passed_stop, passed_end, passed_count}
 use Rattle.records.proofs.Turns.{next_more}
 use Rattle.records.proofs.scanning.check_records.Goals as goal
