@@ -3,7 +3,6 @@ ghost use Rattle.std.specs.Prelude.{◌≤◌};
 
 use crate::order::following;
 use crate::parts::{HUNDREDTHS, of_line, of_parent};
-use arrays::TreeArrays;
 use output::Page;
 use words::{long, word};
 
@@ -16,22 +15,24 @@ const OF_PARENT: u64 = 13;
 
 const OF_LINE: u64 = 15;
 
-// Puts the tree of an accepted table of so many rows.
+// Puts the tree of an accepted table of so many rows, from the parents, depths and shares as it is read.
 pub fn put_tree<const N: usize>(
     page: &mut Page<N>,
     identifiers: &[u32],
-    tree: &TreeArrays,
+    parents: &[u32],
+    depths: &[u32],
+    shares: &[u32],
     rows: u32,
 ) {
     page.put_text(b"class                 share  % of parent  % of the line\n");
     let mut next = Some(0);
     for _ in 0..rows {
         let Some(row) = next else { return };
-        put_class(page, word(&tree.depths, row), word(identifiers, row));
-        let part = of_line(tree, row);
-        put_parts(page, row, word(&tree.shares, row), part);
+        put_class(page, word(depths, row), word(identifiers, row));
+        let part = of_line(parents, depths, shares, row);
+        put_parts(page, row, word(shares, row), part);
         page.put_byte(b'\n');
-        next = following(&tree.parents, rows, row);
+        next = following(parents, rows, row);
     }
 }
 

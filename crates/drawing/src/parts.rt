@@ -6,7 +6,6 @@ ghost use Rattle.input.specs.Classes.{Tree};
 ghost use Rattle.drawing.specs.Parts as parts;
 ghost use Rattle.drawing.specs.Stated.{PartOfParent, PartOfLine};
 
-use arrays::TreeArrays;
 use input::{MOST_DEPTH, WHOLE};
 use words::{long, word};
 
@@ -23,28 +22,28 @@ pub fn of_parent(share: u32) -> u64
     HUNDREDTHS * long(share) / PARTS
 }
 
-// The part of the line that a row has.
-pub fn of_line(tree: &TreeArrays, row: u32) -> u64
-    ensures { PartOfLine tree.now.parents tree.now.depths tree.now.shares row result }
+// The part of the line that a row has, from the parents, depths and shares of all rows: slices, of any length, as whoever draws a table has them.
+pub fn of_line(parents: &[u32], depths: &[u32], shares: &[u32], row: u32) -> u64
+    ensures { PartOfLine parents.now depths.now shares.now row result }
 {
-    let steps = word(&tree.depths, row).min(MOST_DEPTH);
-    let all = product(tree, row, steps);
+    let steps = word(depths, row).min(MOST_DEPTH);
+    let all = product(parents, shares, row, steps);
     (all / (PARTS as u128).pow(steps)) as u64
 }
 
 // The parts on the way up from a row, multiplied, and with the hundredths.
-fn product(tree: &TreeArrays, row: u32, steps: u32) -> u128
+fn product(parents: &[u32], shares: &[u32], row: u32, steps: u32) -> u128
     requires { steps ≤ most_depth }
     ensures most { result ≤ parts.hundredths * whole ^ steps }
-    ensures value { (t : Tree) → t.parents ≡ tree.now.parents → t.shares ≡ tree.now.shares
-        → result ≡ parts.hundredths * parts.product t steps row }
+    ensures value { (tree : Tree) → tree.parents ≡ parents.now → tree.shares ≡ shares.now
+        → result ≡ parts.hundredths * parts.product tree steps row }
 {
     let mut product = HUNDREDTHS as u128;
     let mut at = row;
     for _ in 0..steps {
-        let part = word(&tree.shares, at).min(WHOLE);
+        let part = word(shares, at).min(WHOLE);
         product *= part as u128;
-        at = word(&tree.parents, at);
+        at = word(parents, at);
     }
     product
 }

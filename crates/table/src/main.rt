@@ -42,7 +42,14 @@ fn give_or_draw(rt: &HostRuntime, rows: u64, table: Columns) -> Result<(), Stopp
 
 fn draw(rt: &HostRuntime, identifiers: &[u32], tree: &TreeArrays) -> Result<(), Stopped> {
     let mut page: Page<TREE_BYTES> = Page::blank();
-    drawing::put_tree(&mut page, identifiers, tree, rows_of(identifiers));
+    drawing::put_tree(
+        &mut page,
+        identifiers,
+        &tree.parents,
+        &tree.depths,
+        &tree.shares,
+        rows_of(identifiers),
+    );
     files::print(rt, &page)
 }
 

@@ -10,6 +10,6 @@ use Rattle.drawing.proofs.parts.product.Given as goal
 abbrev pub invariant-loop : goal.invariant-loop
 invariant-loop l = record {
   most : l.product ≤ hundredths * whole ^ l.counter;
-  value : (tree : Tree) → tree.parents ≡ l.tree.parents → tree.shares ≡ l.tree.shares
+  value : (tree : Tree) → tree.parents ≡ l.parents → tree.shares ≡ l.shares
       → l.product * product tree (l.steps - l.counter) l.at ≡ hundredths * product tree l.steps l.row;
 }
