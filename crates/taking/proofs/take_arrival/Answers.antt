@@ -20,13 +20,6 @@ arrive-sent-requires c =
       arrays_read live a.state.now takes.opened,
     )
 
-pub store_rows-requires : goal.store_rows-requires
-store_rows-requires c =
-    let takes = c.requires.takes in
-    let few = takes.holds.counted.few_rows in
-    let rows = takes.opened.rows in
-    record { rows_few = omega arith; state_room = c.requires.state_room }
-
 pub returns : goal.returns
 returns c class row =
     let a = c.args in

@@ -10,14 +10,8 @@ use Rattle.live_rules.specs.State.{box_of, live_in}
 use Rattle.live_box.proofs.EventOutcome.{few_rows, as_long, row_inside, class_found, arrival_takes, arrival_first, arrival_full, arrival_passed, refused_met, taken_met}
 use Rattle.live_box.proofs.meeting.arrival.Goals as goal
 
-pub slice_bounds-row_of-end : goal.slice_bounds-row_of-end
-slice_bounds-row_of-end c = as_long c.args.words.now c.args.state.now c.requires
-
 pub shared_ref_as_front-row_of : goal.shared_ref_as_front-row_of
 shared_ref_as_front-row_of c = few_rows c.args.words.now c.args.state.now c.requires
-
-pub check_packet-requires : goal.check_packet-requires
-check_packet-requires c = (row_inside c.args.words.now c.args.state.now c.requires c.args.class c.args.size c.row_of-row.result c.row_of-row.ensures, omega arith)
 
 pub returns-in_err-k : goal.returns-in_err-k
 returns-in_err-k c =

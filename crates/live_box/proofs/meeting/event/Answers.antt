@@ -25,16 +25,6 @@ returns-then-not-open c =
     unsound_left a.state.now a.class a.length room c.refusal-then-not-open.result c.refusal-then-not-open.ensures
     (sym c.open.ensures.0 ∙ c.if-not-open.true)
 
-pub arrival-requires : goal.arrival-requires
-arrival-requires c =
-    let room : state_words ≤ length c.args.state.now = omega (arith, c.if-state-lt-STATE_WORDS.false) in
-    record { long = room; is_sound = sym c.open.ensures.0 ∙ c.if-not-open.false; opened = c.open.ensures.1 c.if-not-open.false }
-
-pub finish-requires : goal.finish-requires
-finish-requires c =
-    let room : state_words ≤ length c.args.state.now = omega (arith, c.if-state-lt-STATE_WORDS.false) in
-    record { long = room; is_sound = sym c.open.ensures.0 ∙ c.if-not-open.false; opened = c.open.ensures.1 c.if-not-open.false }
-
 pub returns-in-Arrival : goal.returns-in-Arrival
 returns-in-Arrival c =
     let a = c.args in

@@ -16,9 +16,6 @@ returns-then-too_short c =
     let a = c.args in
     short_left a.state.now a.report.now a.lags.now c.refusal.result c.refusal.ensures (sym c.too_short.ensures ∙ c.if-too_short.true)
 
-pub open-requires : goal.open-requires
-open-requires c = let a = c.args in state_room a.state.now a.report.now a.lags.now (sym c.too_short.ensures ∙ c.if-too_short.false)
-
 pub returns-then-not-open : goal.returns-then-not-open
 returns-then-not-open c =
     let a = c.args in
