@@ -1,6 +1,5 @@
 -- `taking::take_arrival` meets its contract: the rows after the arrival and the packet that joined are stored.
 -- Assumes nothing.
-use native.Mathlib.Omega.{arith}
 use Rattle.input.specs.Classes.{Tree}
 use Rattle.rules.specs.Steps.{arrival}
 use Rattle.live_rules.specs.State.{box_of, live_in}

@@ -1,13 +1,11 @@
 -- `live_box::meeting::arrival` meets its contract: what the checks refuse is what the definition refuses.
 -- Assumes nothing.
-use Prim.Native.Nat.{ℕ}
-use mathlib.Core.Path.{◌≡◌, refl, ap, sym, ◌∙◌}
-use native.Mathlib.Omega.{arith}
+use mathlib.Core.Path.{sym, ◌∙◌}
 use Rattle.input.specs.declared.Event.TheVariants.{Arrival}
 use Rattle.input.specs.EventRows.{row_for}
 use Rattle.rules.specs.Refused.{idle}
 use Rattle.live_rules.specs.State.{box_of, live_in}
-use Rattle.live_box.proofs.EventOutcome.{few_rows, as_long, row_inside, class_found, arrival_takes, arrival_first, arrival_full, arrival_passed, refused_met, taken_met}
+use Rattle.live_box.proofs.EventOutcome.{few_rows, class_found, arrival_takes, arrival_first, arrival_full, arrival_passed, refused_met, taken_met}
 use Rattle.live_box.proofs.meeting.arrival.Goals as goal
 
 pub shared_ref_as_front-row_of : goal.shared_ref_as_front-row_of

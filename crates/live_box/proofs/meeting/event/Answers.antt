@@ -1,15 +1,13 @@
 -- `live_box::meeting::event` meets its contract: 3, then 20, then what meets a sound state.
 -- Assumes nothing.
-use Prim.Native.Nat.{ℕ, ◌≤◌}
+use Prim.Native.Nat.{◌≤◌}
 use mathlib.Core.Path.{◌≡◌, sym, ◌∙◌}
 use mathlib.Core.Bool.{true}
-use mathlib.Core.List.{List}
 use native.Mathlib.Omega.{arith}
 use lib.ListN.{length}
 use Rattle.live_rules.specs.Layout.{state_words}
 use Rattle.live_rules.specs.State.{live_in}
 use Rattle.live_rules.specs.Soundness.{sound}
-use Rattle.live_box.specs.Met.{Read}
 use Rattle.live_box.proofs.EventOutcome.{short_left, unsound_left, arrival_left, finish_left}
 use Rattle.live_box.proofs.meeting.event.Goals as goal
 

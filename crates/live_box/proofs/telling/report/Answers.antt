@@ -1,10 +1,7 @@
 -- `report` meets its contract: 3, then 20, then the report and the lags.
 -- Assumes nothing.
-use Prim.Native.Nat.{ℕ}
 use mathlib.Core.Path.{◌≡◌, sym, ◌∙◌}
-use mathlib.Core.Bool.{true, false}
-use mathlib.Core.List.{List}
-use lib.IntN.{ℤ}
+use mathlib.Core.Bool.{true}
 use Rattle.live_rules.specs.State.{live_in}
 use Rattle.live_rules.specs.Soundness.{sound}
 use Rattle.live_laws.proofs.Calls.{holds_in}

@@ -1,6 +1,5 @@
 -- `tell` meets its contract: the report, then the lags, of the arrays that were read.
 -- Assumes nothing.
-use native.Mathlib.Omega.{arith}
 use Rattle.live_rules.specs.State.{box_of}
 use Rattle.live_box.proofs.ReportOutcome.{shown, counts_are, shares_are, written}
 use Rattle.live_box.proofs.telling.tell.Goals as goal
