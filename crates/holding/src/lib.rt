@@ -9,7 +9,8 @@ use input::{RowLongs, RowMarks, RowWords};
 pub use packets::{firsts_of, packets_sound};
 pub use rows::{matches_of, rows_sound};
 
-// For each class how many packets it holds, and its first packet's name + 1 and bytes, both 0 where there is none.
+// For each class how many packets it holds, and its first packet's name + 1 and bytes, both 0 where there is none. An array for each, as the
+// rows have theirs: the definitions of the tests go by lists.
 #[derive(Clone, Copy)]
 pub struct Firsts {
     pub counts: RowWords,

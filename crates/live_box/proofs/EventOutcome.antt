@@ -4,11 +4,11 @@ use Prim.Native.Nat.{ℕ, ◌≤◌, ◌<◌}
 use mathlib.Core.Path.{◌≡◌, refl, sym, ap, ◌∙◌}
 use mathlib.Core.Logic.{◌≢◌}
 use mathlib.Core.Bool.{Bool, true, false, cond, not, false≢true}
-use mathlib.Core.List.{List, [], ◌∷◌}
+use mathlib.Core.List.{List}
 use native.Mathlib.Omega.{arith}
 use lib.Dec.{eqb}
 use lib.ListN.{length, get_or, take, length-take}
-use borrow.Author.Tests.{eqb-true, eq-eqb, ne_eqb, lt-ltb, le-ltb}
+use borrow.Author.Tests.{eq-eqb, ne_eqb, lt-ltb, le-ltb}
 use Rattle.input.specs.declared.Event.{Event}
 use Rattle.input.specs.declared.Event.TheVariants.{Arrival, Finish}
 use Rattle.input.specs.declared.Refusal.{Refusal}
@@ -25,7 +25,7 @@ use Rattle.tables.specs.Judged.{Refuses}
 use Rattle.tables.proofs.Judging.{at_first, at_second}
 use Rattle.checks.specs.Counted.{Places, Found}
 use Rattle.live_rules.specs.Layout.{state_words}
-use Rattle.live_rules.specs.State.{Live, box_of, tree_in, live_with, live_in}
+use Rattle.live_rules.specs.State.{Live, box_of, live_in}
 use Rattle.live_rules.specs.Soundness.{sound}
 use Rattle.live_rules.specs.Taking.{full_refused, event_refused}
 use Rattle.live_rules.specs.Outcomes.{refusing, state_refused, event_outcome, Took}

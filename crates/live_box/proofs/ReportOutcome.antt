@@ -4,7 +4,7 @@ use Prim.Native.Nat.{ℕ, ◌*◌, ◌≤◌}
 use mathlib.Core.Path.{◌≡◌, sym, ap, ◌∙◌}
 use mathlib.Core.Logic.{◌≢◌}
 use mathlib.Core.Bool.{Bool, true, false, ◌||◌}
-use mathlib.Core.List.{List, []}
+use mathlib.Core.List.{List}
 use mathlib.Mathlib.Data.Bool.Basic.{or-eq-false-eq-eq-false-and-eq-false as or-is-false}
 use native.Mathlib.Omega.{arith}
 use lib.Dec.{ltb}
@@ -21,7 +21,7 @@ use Rattle.report.specs.Shown.{Shown}
 use Rattle.report.specs.Lags.{Shares, Past}
 use Rattle.tables.specs.Answers.{refusal_of}
 use Rattle.live_rules.specs.Layout.{state_words}
-use Rattle.live_rules.specs.State.{Live, box_of, tree_in, live_with, live_in}
+use Rattle.live_rules.specs.State.{Live, box_of, live_in}
 use Rattle.live_rules.specs.Soundness.{sound}
 use Rattle.live_rules.specs.Outcomes.{state_refused, report_short, report_outcome, Tells}
 use Rattle.live_laws.specs.Holds.{Holds}

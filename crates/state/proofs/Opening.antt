@@ -13,7 +13,7 @@ use Rattle.live_rules.specs.Layout.{rows_word, identifiers_at, parents_at, depth
 use Rattle.live_rules.specs.Layout.{starts_at, finishes_at, virtuals_at, heads_at, head_lengths_at, head_classes_at}
 use Rattle.live_rules.specs.Layout.{bytes_at, held_at, since_at, parent_since_at}
 use Rattle.live_rules.specs.State.{Live, packets_at, tree_in, rows_in, live_with, live_in, events}
-use Rattle.live_rules.specs.Soundness.{all, few, tree_sound, packets_sound, in_order, row_sound}
+use Rattle.live_rules.specs.Soundness.{all, tree_sound, packets_sound, in_order, row_sound}
 use Rattle.live_rules.proofs.Rows.{rows_first}
 use Rattle.live_rules.proofs.Packets.{packets_length}
 use Rattle.live_laws.specs.Holds as holds

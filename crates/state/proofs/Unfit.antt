@@ -2,7 +2,7 @@
 -- Assumes nothing.
 use Prim.Native.Nat.{ℕ, ◌+◌, ◌≤◌, ◌<◌}
 use mathlib.Core.Path.{◌≡◌, sym, ap, ◌∙◌}
-use mathlib.Core.Bool.{Bool, true, false, ◌&&◌, false≢true}
+use mathlib.Core.Bool.{true, false, false≢true}
 use mathlib.Core.List.{List}
 use native.Mathlib.Decide.{dec_le}
 use native.Mathlib.Omega.{arith}
@@ -14,7 +14,7 @@ use Rattle.live_rules.specs.Limits.{most_held}
 use Rattle.live_rules.specs.Layout.{rows_word, state_words, words_at, rows_at}
 use Rattle.live_rules.specs.Layout.{identifiers_at, parents_at, depths_at, shares_at, heads_at, head_lengths_at, head_classes_at, held_at}
 use Rattle.live_rules.specs.State.{tree_in, rows_in, live_with, live_in}
-use Rattle.live_rules.specs.Soundness.{all, few, sound}
+use Rattle.live_rules.specs.Soundness.{few, sound}
 use Rattle.live_rules.proofs.Stretches.{words_get}
 use Rattle.live_rules.proofs.Rows.{rows_get, rows_zero}
 use Rattle.live_laws.specs.Narrow.{Narrow}

@@ -220,7 +220,7 @@ pub fn find_packet(state: &[u64], m: usize, name: u64) -> Option<usize>
         .position(|word| *word == name)
 }
 
-// A class's next packet: its name + 1 and its length; 0 and 0 where there is none.
+// A class's next packet: its name + 1 and its length; 0 and 0 where there is none, as in the words of the lent state, which are fixed.
 #[derive(Clone, Copy)]
 pub struct Next {
     pub word: u32,

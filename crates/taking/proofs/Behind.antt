@@ -1,12 +1,11 @@
 -- The packet on the line among those held: where it stands, and which of its class stand behind it.
 -- Assumes nothing.
-use Prim.Native.Nat.{ℕ, suc, ◌+◌, ◌<◌, ◌≤◌, ◌^◌}
+use Prim.Native.Nat.{ℕ, suc, ◌<◌, ◌^◌}
 use mathlib.Core.Path.{◌≡◌, refl}
 use mathlib.Core.List.{List, [], ◌∷◌, tail}
 use native.Mathlib.Omega.{arith}
 use lib.ListN.{length, drop}
 use borrow.Author.Tests.{eq-eqb, ne_eqb}
-use Rattle.input.specs.Limits.{most_bytes}
 use Rattle.input.specs.Classes.{Tree}
 use Rattle.live_rules.specs.State.{Held, queue}
 use Rattle.live_laws.specs.Holds.{Fitting}

@@ -1,25 +1,18 @@
 -- What a sound state has that was read, as the steps ask for it; and the rows after a step, as they are handed on.
 -- Assumes nothing.
-use Prim.Native.Nat.{ℕ, suc, ◌<◌, ◌≤◌, ◌^◌}
-use mathlib.Core.Path.{◌≡◌, refl, sym, ap, subst, ◌∙◌}
-use mathlib.Core.List.{List, []}
+use Prim.Native.Nat.{ℕ}
+use mathlib.Core.Path.{◌≡◌, refl, sym, subst}
 use native.Mathlib.Omega.{arith}
-use lib.ListN.{length, get_or}
-use Rattle.input.specs.Limits.{most_bytes}
 use Rattle.input.specs.Classes.{Tree}
-use Rattle.rules.specs.Box.{Rows, Box, left}
-use Rattle.rules.specs.Steps.{arrival, departure}
+use Rattle.rules.specs.Box.{Box}
 use Rattle.std.specs.Prelude.{Option}
 use Rattle.arrays.specs.declared.RowArrays.{RowArrays}
 use Rattle.arrays.specs.declared.CountArrays.{CountArrays}
 use Rattle.arrays.specs.Arrays.{rows_in, tree_in}
 use Rattle.hierarchy.specs.Sizes.{Small}
-use Rattle.counts.specs.Counts.{Counts}
 use Rattle.steps.specs.Ready.{Ready}
-use Rattle.live_rules.specs.Limits.{most_accepted}
 use Rattle.live_rules.specs.State.{Live, box_of, events}
 use Rattle.live_laws.specs.Holds.{Holds}
-use Rattle.live_laws.specs.Narrow.{Narrow, Fits}
 use Rattle.live_laws.proofs.Narrowing.{narrow, fits}
 use Rattle.moving.specs.Arrays.{Arrays, Able, Arrives, Finishes, Done}
 use Rattle.state.specs.declared.State.{State}

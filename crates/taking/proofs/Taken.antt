@@ -1,9 +1,9 @@
 -- What an event that is taken leaves: its answer and every word, from what each call stores.
 -- Assumes nothing.
-use Prim.Native.Nat.{ℕ, suc, pred, ◌+◌, ◌*◌, ◌-◌, ◌<◌, ◌≤◌, ◌^◌}
+use Prim.Native.Nat.{ℕ, suc, pred, ◌+◌, ◌*◌, ◌-◌, ◌<◌, ◌≤◌}
 use mathlib.Core.Path.{◌≡◌, refl, sym, ap, ap₂, subst, ◌∙◌}
 use mathlib.Core.Logic.{◌≢◌}
-use mathlib.Core.List.{List, [], ◌∷◌, ◌++◌, tail}
+use mathlib.Core.List.{List, [], ◌∷◌, ◌++◌}
 use native.Mathlib.Omega.{arith}
 use native.Mathlib.Numerals.{add-one}
 use lib.ListN.{length, get_or, take, drop}
@@ -14,15 +14,14 @@ use Rattle.moving.specs.Arrays.{went}
 use Rattle.input.specs.declared.Event.{Event}
 use Rattle.input.specs.declared.Event.TheVariants.{Arrival, Finish}
 use Rattle.input.specs.Limits.{most_rows, most_bytes}
-use Rattle.input.specs.Classes.{Tree, row_of}
-use Rattle.rules.specs.Box.{Packet, Rows, Box, head, head_class, left}
+use Rattle.input.specs.Classes.{row_of}
+use Rattle.rules.specs.Box.{head, head_class, left}
 use Rattle.rules.specs.Steps.{arrival, departure, step}
 use Rattle.hierarchy.specs.Next.{next_of}
-use Rattle.live_rules.specs.Limits.{most_accepted}
 use Rattle.live_rules.specs.Layout.{held_at, state_words}
 use Rattle.live_rules.specs.State.{Held, Live, queue, box_of, events, packets_at, live_with, live_in, packets_stored, stored}
 use Rattle.live_rules.specs.Taking.{box_after, without, packets_after, accepted_after, took}
-use Rattle.live_rules.specs.Outcomes.{Left, doing}
+use Rattle.live_rules.specs.Outcomes.{doing}
 use Rattle.live_rules.proofs.Packets.{packets_length}
 use Rattle.live_laws.specs.Holds.{Holds}
 use Rattle.live_laws.proofs.EventStored.{event_stored, event_packets}

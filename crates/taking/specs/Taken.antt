@@ -1,8 +1,8 @@
 -- An event that is taken: what it needs of the state that was read, and what it leaves.
-use Rattle.std.specs.Prelude.{ℕ, suc, ◌<◌, ◌≤◌, ◌≡◌, ◌≢◌, List, [], ◌∷◌, length}
+use Rattle.std.specs.Prelude.{ℕ, ◌<◌, ◌≤◌, ◌≡◌, ◌≢◌, List, [], ◌∷◌, length}
 use Rattle.std.proofs.lemmas.List.Edits.{sets}
 use Rattle.input.specs.declared.Event.{Event}
-use Rattle.input.specs.Limits.{most_rows, most_bytes}
+use Rattle.input.specs.Limits.{most_bytes}
 use Rattle.rules.specs.Box.{head}
 use Rattle.laws.specs.Sound.{Sender}
 use Rattle.arrays.specs.declared.RowArrays.{RowArrays}

@@ -2,19 +2,8 @@
 -- Assumes nothing.
 use Prim.Native.Nat.{ℕ}
 use native.Mathlib.Omega.{arith}
-use Rattle.moving.proofs.Arriving.{ready, few_rows, few_from, front_climbs, front_leeway, arrived}
+use Rattle.moving.proofs.Arriving.{few_from, front_climbs, front_leeway, arrived}
 use Rattle.moving.proofs.arrive.Goals as goal
-
-pub list_children-finding-requires : goal.list_children-finding-requires
-list_children-finding-requires c =
-    let able = c.requires.2.able in
-    record { count_nonzero = able.sound.some_rows; count_le_most_rows = able.sound.few_rows; inside = able.ready.inside }
-
-pub arrive-from-requires : goal.arrive-from-requires
-arrive-from-requires c =
-    let able = c.requires.2 in
-    let arrays = c.requires.3 in
-    record { ready = ready able arrays; k_is_row = few_rows able arrays; place_small = able.able.few; length_allowed = able.few_bytes }
 
 pub offset_bounds-tree-from : goal.offset_bounds-tree-from
 offset_bounds-tree-from c = omega (arith, c.arrive-from.ensures.front, few_from c.requires.2 c.requires.3)

@@ -1,27 +1,9 @@
 -- `moving::finish` meets its contract: the list of children, the departure before the way up, the way up and what goes on the line are the event.
 -- Assumes nothing.
 use Prim.Native.Nat.{ℕ}
-use native.Mathlib.Omega.{arith}
 use Rattle.rules.specs.Box.{left}
-use Rattle.moving.proofs.Finishing.{ready, class_few, onward_climbs, onward_leeway, finished}
+use Rattle.moving.proofs.Finishing.{onward_climbs, onward_leeway, finished}
 use Rattle.moving.proofs.finish.Goals as goal
-
-pub list_children-finding-requires : goal.list_children-finding-requires
-list_children-finding-requires c =
-    let able = c.requires.3.able in
-    record { count_nonzero = able.sound.some_rows; count_le_most_rows = able.sound.few_rows; inside = able.ready.inside }
-
-pub depart-class-requires : goal.depart-class-requires
-depart-class-requires c =
-    let able = c.requires.3 in
-    let arrays = c.requires.4 in
-    record { ready = ready able arrays; class_is_row = class_few able arrays; length_allowed = able.few_bytes }
-
-pub offset_bounds-tree-class : goal.offset_bounds-tree-class
-offset_bounds-tree-class c = omega (arith, c.depart-class.ensures.class_sent, class_few c.requires.3 c.requires.4)
-
-pub bounds-tree-class : goal.bounds-tree-class
-bounds-tree-class c = omega (arith, c.depart-class.ensures.class_sent, class_few c.requires.3 c.requires.4)
 
 pub up-requires : goal.up-requires
 up-requires c =

@@ -1,6 +1,5 @@
 -- `close` meets its contract: the gap comes one place further at each turn.
 -- Assumes nothing.
-use Prim.Native.Nat.{◌-◌}
 use mathlib.Core.Path.{refl}
 use lib.ListN.{length-set}
 use Rattle.storing.proofs.Packets.{closed_none, closed_turn, closed_all}

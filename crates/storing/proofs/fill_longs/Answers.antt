@@ -1,7 +1,7 @@
 -- `fill_longs` meets its contract: the words, and the zeros behind them.
 -- Assumes nothing.
 use Prim.Native.Nat.{◌+◌, ◌-◌}
-use mathlib.Core.Path.{◌≡◌, refl, ap, ◌∙◌}
+use mathlib.Core.Path.{◌≡◌, refl}
 use native.Mathlib.Omega.{arith}
 use Rattle.input.specs.Classes.{zeros}
 use Rattle.live_rules.specs.Layout.{words_at}

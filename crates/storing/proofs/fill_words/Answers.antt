@@ -1,7 +1,7 @@
 -- `fill_words` meets its contract: a row more at each turn, so long as it fits.
 -- Assumes nothing.
-use Prim.Native.Nat.{ℕ, ◌+◌, ◌-◌}
-use mathlib.Core.Path.{◌≡◌, sym, ◌∙◌}
+use Prim.Native.Nat.{ℕ, ◌+◌}
+use mathlib.Core.Path.{◌≡◌, sym}
 use mathlib.Core.Bool.{Bool}
 use lib.Dec.{leb}
 use lib.ListN.{get_or}
@@ -27,6 +27,3 @@ loop-r-preserved c =
       all_more c.loop-r.r test c.loop-r.invariant.0 (le-leb (get_or s.state.now (s.at + c.loop-r.r) 0) s.most (omega arith)),
       read_turn c.loop-r.list s.state.now s.at c.loop-r.r _ (omega arith) (omega arith) c.shorter.ensures c.loop-r.invariant.1,
     )
-
-pub returns : goal.returns
-returns c = let end : c.loop-r.r ≡ c.args.n = omega arith in record { value = sym (rw end at c.loop-r.invariant.0); list_after = λ _. rw (← end) c.loop-r.invariant.1 }

@@ -1,15 +1,11 @@
 -- `next_packet` meets its contract: what remains to be looked through has the same queue.
 -- Assumes nothing.
-use Prim.Native.Nat.{◌-◌}
 use mathlib.Core.Path.{refl, sym, ◌∙◌}
 use native.Mathlib.Numerals.{add-one}
 use Rattle.hierarchy.specs.Next.{next_of}
 use Rattle.storing.proofs.Packets.{next_here, next_later, next_none, next_word, worded_in}
 use native.Mathlib.Omega.{arith}
 use Rattle.storing.proofs.next_packet.Goals as goal
-
-pub loop-i-init : goal.loop-i-init
-loop-i-init c = refl
 
 pub next_at-requires : goal.next_at-requires
 next_at-requires c =

@@ -1,6 +1,5 @@
 -- `next_packet` meets its contract: what remains to be looked through has the same queue.
 -- Assumes nothing.
-use Prim.Native.Nat.{◌-◌}
 use mathlib.Core.Path.{◌≡◌}
 use lib.ListN.{drop}
 use Rattle.live_rules.specs.State.{packets_at, queue}

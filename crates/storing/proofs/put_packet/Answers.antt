@@ -5,12 +5,6 @@ use Rattle.storing.proofs.Packets.{packets_joined}
 use native.Mathlib.Omega.{arith}
 use Rattle.storing.proofs.put_packet.Goals as goal
 
-pub bounds-state-m-2 : goal.bounds-state-m-2
-bounds-state-m-2 c = simp length-set (omega arith)
-
-pub bounds-state-m-3 : goal.bounds-state-m-3
-bounds-state-m-3 c = simp (length-set, length-set) (omega arith)
-
 pub returns : goal.returns
 returns c = let s = c.args in record {
   state_after = λ packets same.

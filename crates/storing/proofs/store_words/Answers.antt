@@ -1,7 +1,6 @@
 -- `store_words` meets its contract: a row more at each turn.
 -- Assumes nothing.
-use Prim.Native.Nat.{◌-◌}
-use mathlib.Core.Path.{◌≡◌, refl}
+use mathlib.Core.Path.{refl}
 use lib.ListN.{length-set}
 use Rattle.storing.proofs.Turns.{written_none, written_turn}
 use native.Mathlib.Omega.{arith}
@@ -16,6 +15,3 @@ loop-r-preserved c =
       written_turn c.loop-r.state s.state.now s.list.now s.at c.loop-r.r _ (omega arith) c.long.ensures.0 c.loop-r.invariant.0,
       simp length-set (omega arith),
     )
-
-pub returns : goal.returns
-returns c = let end : c.loop-r.r ≡ c.args.n = omega arith in record { state_after = rw (← end) c.loop-r.invariant.0; state_unchanged = c.loop-r.invariant.1 }

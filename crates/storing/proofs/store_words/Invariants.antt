@@ -1,6 +1,5 @@
 -- `store_words` meets its contract: a row more at each turn.
 -- Assumes nothing.
-use Prim.Native.Nat.{◌-◌, ◌≤◌}
 use mathlib.Core.Path.{◌≡◌}
 use lib.ListN.{length}
 use Rattle.live_rules.specs.State.{rows_stored}

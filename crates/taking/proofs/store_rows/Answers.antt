@@ -5,7 +5,6 @@ use mathlib.Core.Path.{ap, ap₂, sym, ◌∙◌}
 use mathlib.Core.List.{[], ◌∷◌}
 use borrow.Author.Rules.{rules}
 use lib.Seq.{sets}
-use Rattle.rules.specs.Box.{Rows}
 use Rattle.live_rules.specs.Layout.{accepted_word}
 use Rattle.live_rules.specs.State.{tags_stored, heads_stored, counts_stored}
 use Rattle.taking.specs.Taken.{rows_kept}

@@ -1,6 +1,5 @@
 -- `taking::take_arrival` meets its contract: the rows after the arrival and the packet that joined are stored.
 -- Assumes nothing.
-use native.Mathlib.Omega.{arith}
 use Rattle.input.specs.Classes.{Tree}
 use Rattle.rules.specs.Steps.{arrival}
 use Rattle.live_rules.specs.State.{box_of, live_in}
@@ -19,13 +18,6 @@ arrive-sent-requires c =
           (arrival_comes live a.state.now a.k a.size c.next_name-name.result takes c.next_name-name.ensures),
       arrays_read live a.state.now takes.opened,
     )
-
-pub store_rows-requires : goal.store_rows-requires
-store_rows-requires c =
-    let takes = c.requires.takes in
-    let few = takes.holds.counted.few_rows in
-    let rows = takes.opened.rows in
-    record { rows_few = omega arith; state_room = c.requires.state_room }
 
 pub returns : goal.returns
 returns c class row =

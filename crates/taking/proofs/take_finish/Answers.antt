@@ -5,7 +5,7 @@ use Rattle.input.specs.Classes.{Tree}
 use Rattle.rules.specs.Steps.{departure}
 use Rattle.live_rules.specs.State.{box_of, events, live_in}
 use Rattle.taking.proofs.Coming.{finishes, arrays_read, tree_same, tree_read, moved_to}
-use Rattle.taking.proofs.Taken.{line_some, held_worded, line_is_some, place_found, line_found, line_held, next_comes, finish_left}
+use Rattle.taking.proofs.Taken.{held_worded, line_is_some, place_found, line_found, line_held, next_comes, finish_left}
 use Rattle.taking.proofs.take_finish.Goals as goal
 
 pub unwrap-at-requires : goal.unwrap-at-requires

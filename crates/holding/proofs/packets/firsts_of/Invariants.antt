@@ -1,6 +1,5 @@
 -- `holding::packets::firsts_of` meets its contract: the packets passed are told.
 -- Assumes nothing.
-use Prim.Native.Nat.{◌-◌, ◌≤◌}
 use Rattle.holding.proofs.Queues.{Tally}
 use Rattle.holding.proofs.packets.firsts_of.Given as goal
 

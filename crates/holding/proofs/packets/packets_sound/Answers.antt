@@ -1,8 +1,6 @@
 -- `holding::packets::packets_sound` meets its contract: the packets passed fit, and the least name that the next may have is kept.
 -- Assumes nothing.
-use Prim.Native.Nat.{◌-◌}
 use mathlib.Core.Path.{◌≡◌, refl, sym, ◌∙◌}
-use mathlib.Core.Bool.{true}
 use native.Mathlib.Numerals.{add-one}
 use Rattle.live_rules.specs.Soundness.{all}
 use Rattle.holding.specs.Packets.{fits_at, least_at}

@@ -1,6 +1,5 @@
 -- `holding::packets::packets_sound` meets its contract: the packets passed fit, and the least name that the next may have is kept.
 -- Assumes nothing.
-use Prim.Native.Nat.{◌-◌, ◌≤◌}
 use mathlib.Core.Path.{◌≡◌}
 use mathlib.Core.Bool.{true}
 use Rattle.live_rules.specs.Soundness.{all}

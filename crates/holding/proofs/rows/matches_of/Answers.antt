@@ -1,13 +1,11 @@
 -- `holding::rows::matches_of` meets its contract: the rows passed have left their marks.
 -- Assumes nothing.
-use Prim.Native.Nat.{◌-◌}
 use mathlib.Core.Path.{◌≡◌, ◌∙◌}
 use mathlib.Core.Bool.{Bool, false, ◌||◌}
 use lib.ListN.{get_or, length-set, length-replicate}
 use Rattle.input.specs.Limits.{most_rows}
 use Rattle.holding.specs.Row.{passed_on}
 use Rattle.holding.proofs.Passing.{matches_none, matches_more}
-use native.Mathlib.Omega.{arith}
 use Rattle.holding.proofs.rows.matches_of.Goals as goal
 use Rattle.holding.proofs.rows.matches_of.Goals.{then-marks-p, else-marks-p}
 
@@ -39,9 +37,3 @@ loop-t-preserved c =
           row.ensures.0
           marked,
     )
-
-pub returns : goal.returns
-returns c =
-    let at = c.loop-t in
-    let end : at.t ≡ c.args.n = omega arith in
-    rw end at at.invariant.1

@@ -1,6 +1,5 @@
 -- `holding::rows::matches_of` meets its contract: the rows passed have left their marks.
 -- Assumes nothing.
-use Prim.Native.Nat.{◌-◌, ◌≤◌}
 use mathlib.Core.Path.{◌≡◌}
 use lib.ListN.{length}
 use Rattle.input.specs.Limits.{most_rows}

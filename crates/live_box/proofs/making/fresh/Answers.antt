@@ -1,10 +1,10 @@
 -- `fresh` meets its contract: the refusals in their order, then the table's fresh state.
 -- Assumes nothing.
-use Prim.Native.Nat.{ℕ, ◌≤◌}
-use mathlib.Core.Path.{◌≡◌, refl, sym, ap, ◌∙◌}
+use Prim.Native.Nat.{◌≤◌}
+use mathlib.Core.Path.{refl, sym, ap}
 use native.Mathlib.Omega.{arith}
 use lib.ListN.{length}
-use Rattle.input.specs.Classes.{Table, tree_of}
+use Rattle.input.specs.Classes.{Table}
 use Rattle.input.specs.Lent.{table_of}
 use Rattle.tables.specs.Answers.{accepting}
 use Rattle.tables.specs.declared.Reading.{Reading}

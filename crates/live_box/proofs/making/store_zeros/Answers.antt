@@ -1,9 +1,9 @@
 -- `store_zeros` meets its contract: three groups, one after the other.
 -- Assumes nothing.
-use mathlib.Core.Path.{refl, sym, ap, ◌∙◌}
+use mathlib.Core.Path.{sym, ap, ◌∙◌}
 use Rattle.arrays.specs.declared.CountArrays.{CountArrays}
 use Rattle.arrays.specs.Arrays.{no_counts}
-use Rattle.live_rules.specs.State.{fresh_live, heads_stored, tags_stored, counts_stored}
+use Rattle.live_rules.specs.State.{fresh_live, heads_stored, counts_stored}
 use Rattle.live_box.proofs.making.store_zeros.Goals as goal
 
 pub returns : goal.returns

@@ -1,23 +1,15 @@
 -- `live_box::meeting::arrival` meets its contract: what the checks refuse is what the definition refuses.
 -- Assumes nothing.
-use Prim.Native.Nat.{ℕ}
-use mathlib.Core.Path.{◌≡◌, refl, ap, sym, ◌∙◌}
-use native.Mathlib.Omega.{arith}
+use mathlib.Core.Path.{sym, ◌∙◌}
 use Rattle.input.specs.declared.Event.TheVariants.{Arrival}
 use Rattle.input.specs.EventRows.{row_for}
 use Rattle.rules.specs.Refused.{idle}
 use Rattle.live_rules.specs.State.{box_of, live_in}
-use Rattle.live_box.proofs.EventOutcome.{few_rows, as_long, row_inside, class_found, arrival_takes, arrival_first, arrival_full, arrival_passed, refused_met, taken_met}
+use Rattle.live_box.proofs.EventOutcome.{few_rows, class_found, arrival_takes, arrival_first, arrival_full, arrival_passed, refused_met, taken_met}
 use Rattle.live_box.proofs.meeting.arrival.Goals as goal
-
-pub slice_bounds-row_of-end : goal.slice_bounds-row_of-end
-slice_bounds-row_of-end c = as_long c.args.words.now c.args.state.now c.requires
 
 pub shared_ref_as_front-row_of : goal.shared_ref_as_front-row_of
 shared_ref_as_front-row_of c = few_rows c.args.words.now c.args.state.now c.requires
-
-pub check_packet-requires : goal.check_packet-requires
-check_packet-requires c = (row_inside c.args.words.now c.args.state.now c.requires c.args.class c.args.size c.row_of-row.result c.row_of-row.ensures, omega arith)
 
 pub returns-in_err-k : goal.returns-in_err-k
 returns-in_err-k c =

@@ -1,15 +1,13 @@
 -- `live_box::meeting::event` meets its contract: 3, then 20, then what meets a sound state.
 -- Assumes nothing.
-use Prim.Native.Nat.{ℕ, ◌≤◌}
+use Prim.Native.Nat.{◌≤◌}
 use mathlib.Core.Path.{◌≡◌, sym, ◌∙◌}
 use mathlib.Core.Bool.{true}
-use mathlib.Core.List.{List}
 use native.Mathlib.Omega.{arith}
 use lib.ListN.{length}
 use Rattle.live_rules.specs.Layout.{state_words}
 use Rattle.live_rules.specs.State.{live_in}
 use Rattle.live_rules.specs.Soundness.{sound}
-use Rattle.live_box.specs.Met.{Read}
 use Rattle.live_box.proofs.EventOutcome.{short_left, unsound_left, arrival_left, finish_left}
 use Rattle.live_box.proofs.meeting.event.Goals as goal
 
@@ -24,16 +22,6 @@ returns-then-not-open c =
     let room : state_words ≤ length a.state.now = omega (arith, c.if-state-lt-STATE_WORDS.false) in
     unsound_left a.state.now a.class a.length room c.refusal-then-not-open.result c.refusal-then-not-open.ensures
     (sym c.open.ensures.0 ∙ c.if-not-open.true)
-
-pub arrival-requires : goal.arrival-requires
-arrival-requires c =
-    let room : state_words ≤ length c.args.state.now = omega (arith, c.if-state-lt-STATE_WORDS.false) in
-    record { long = room; is_sound = sym c.open.ensures.0 ∙ c.if-not-open.false; opened = c.open.ensures.1 c.if-not-open.false }
-
-pub finish-requires : goal.finish-requires
-finish-requires c =
-    let room : state_words ≤ length c.args.state.now = omega (arith, c.if-state-lt-STATE_WORDS.false) in
-    record { long = room; is_sound = sym c.open.ensures.0 ∙ c.if-not-open.false; opened = c.open.ensures.1 c.if-not-open.false }
 
 pub returns-in-Arrival : goal.returns-in-Arrival
 returns-in-Arrival c =

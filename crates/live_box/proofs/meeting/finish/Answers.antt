@@ -1,6 +1,6 @@
 -- `live_box::meeting::finish` meets its contract: what the check refuses is what the definition refuses.
 -- Assumes nothing.
-use mathlib.Core.Path.{◌≡◌, refl, ap, sym, ◌∙◌}
+use mathlib.Core.Path.{sym, ◌∙◌}
 use Rattle.input.specs.declared.Event.TheVariants.{Finish}
 use Rattle.live_rules.specs.State.{live_in}
 use Rattle.live_box.proofs.EventOutcome.{line_idle, finish_first, finish_passed, finish_takes, refused_met, taken_met}

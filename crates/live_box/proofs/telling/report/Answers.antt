@@ -1,10 +1,7 @@
 -- `report` meets its contract: 3, then 20, then the report and the lags.
 -- Assumes nothing.
-use Prim.Native.Nat.{ℕ}
 use mathlib.Core.Path.{◌≡◌, sym, ◌∙◌}
-use mathlib.Core.Bool.{true, false}
-use mathlib.Core.List.{List}
-use lib.IntN.{ℤ}
+use mathlib.Core.Bool.{true}
 use Rattle.live_rules.specs.State.{live_in}
 use Rattle.live_rules.specs.Soundness.{sound}
 use Rattle.live_laws.proofs.Calls.{holds_in}
@@ -15,9 +12,6 @@ pub returns-then-too_short : goal.returns-then-too_short
 returns-then-too_short c =
     let a = c.args in
     short_left a.state.now a.report.now a.lags.now c.refusal.result c.refusal.ensures (sym c.too_short.ensures ∙ c.if-too_short.true)
-
-pub open-requires : goal.open-requires
-open-requires c = let a = c.args in state_room a.state.now a.report.now a.lags.now (sym c.too_short.ensures ∙ c.if-too_short.false)
 
 pub returns-then-not-open : goal.returns-then-not-open
 returns-then-not-open c =

@@ -8,6 +8,3 @@ overflow_add-result c =
     record {
       fits = rw (one_shifted c.args.k c.requires.k_lt_word_bits) (bit_fits c.args.word c.args.k 64 c.ranges.word.fits c.requires.k_lt_word_bits c.requires.k_value);
     }
-
-pub returns : goal.returns
-returns c = rw (one_shifted c.args.k c.requires.k_lt_word_bits)

@@ -1,18 +1,11 @@
 -- `all_named` meets its contract: the rows passed are named, and the table has their identifiers.
 -- Assumes nothing.
-use Prim.Native.Nat.{◌-◌}
 use mathlib.Core.Path.{◌≡◌, refl, sym, ◌∙◌}
-use mathlib.Core.Bool.{true, not, ◌&&◌}
 use native.Mathlib.Numerals.{add-one}
 use native.Mathlib.Omega.{arith}
-use borrow.Author.Tests.{not-true, leb-true}
-use lib.Dec.{ltb, leb}
-use lib.ListN.{get_or}
-use Rattle.input.specs.Limits.{most_identifier}
 use Rattle.live_rules.specs.Soundness.{all, named}
 use Rattle.soundness.specs.Bits.{met}
 use Rattle.live_rules.proofs.Alls.{all_next, all_fails, all_same}
-use Rattle.soundness.proofs.Alls.{both_left, both_right}
 use Rattle.soundness.proofs.Names.{newly, named_newly, newly_test, met_start, met_turn}
 use Rattle.soundness.proofs.tree.all_named.Goals as goal
 
@@ -27,9 +20,6 @@ returns-then-not-is_new c tree e1 e2 =
     let r = c.loop-r.r in
     let this = sym (newly_test ids c.loop-r.table r c.loop-r.invariant.2) ∙ sym c.is_new.ensures ∙ c.if-not-is_new.true in
     sym (all_same n (named tree) (newly ids) (λ q inside. named_newly tree ids n q e2 inside) ∙ all_fails n (newly ids) r (omega arith) this)
-
-pub meet-requires : goal.meet-requires
-meet-requires c = let x = get_or c.args.identifiers.now c.loop-r.r 0 in let new = sym c.is_new.ensures ∙ c.if-not-is_new.false in let later = both_right (ltb 0 x) (leb x most_identifier && not (met c.loop-r.table x)) new in record { identifier_small = leb-true x most_identifier (both_left (leb x most_identifier) (not (met c.loop-r.table x)) later); table_full = c.loop-r.invariant.0; not_met = not-true (met c.loop-r.table x) (both_right (leb x most_identifier) (not (met c.loop-r.table x)) later) }
 
 pub loop-r-preserved : goal.loop-r-preserved
 loop-r-preserved c =

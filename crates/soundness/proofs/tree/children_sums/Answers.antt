@@ -1,6 +1,6 @@
 -- `children_sums` meets its contract: the rows passed are added up for their parents.
 -- Assumes nothing.
-use Prim.Native.Nat.{ℕ, ◌+◌, ◌*◌, ◌-◌, ◌^◌, ◌≤◌}
+use Prim.Native.Nat.{ℕ, ◌+◌, ◌*◌, ◌^◌, ◌≤◌}
 use mathlib.Core.Path.{refl, sym, ◌∙◌}
 use native.Mathlib.Numerals.{add-one}
 use native.Mathlib.Omega.{arith}
@@ -19,26 +19,6 @@ loop-r-init c = (
   λ p. rw (replicate_at {A = ℕ} most_rows p 0) (omega arith),
   λ tree e p inside. replicate_at {A = ℕ} most_rows p 0 ∙ sym (sums_start tree c.args.list.now p),
 )
-
-pub offset_bounds-sums-p : goal.offset_bounds-sums-p
-offset_bounds-sums-p c =
-    let inside = c.requires.inside c.loop-r.r (omega arith) in
-    omega (arith, c.wide-p.ensures.0)
-
-pub bounds-sums-p : goal.bounds-sums-p
-bounds-sums-p c =
-    let inside = c.requires.inside c.loop-r.r (omega arith) in
-    omega (arith, c.wide-p.ensures.0)
-
-pub overflow_add-sums : goal.overflow_add-sums
-overflow_add-sums c =
-    let few = c.loop-r.invariant.3 c.wide-p.result in
-    omega (arith, c.long.ensures.1)
-
-pub bounds-sums-p-in-loop-r : goal.bounds-sums-p-in-loop-r
-bounds-sums-p-in-loop-r c =
-    let inside = c.requires.inside c.loop-r.r (omega arith) in
-    omega (arith, c.wide-p.ensures.0)
 
 pub loop-r-preserved : goal.loop-r-preserved
 loop-r-preserved c =

@@ -1,6 +1,5 @@
 -- `senders_of` meets its contract: the rows passed have marked their parents.
 -- Assumes nothing.
-use Prim.Native.Nat.{◌-◌}
 use mathlib.Core.Path.{◌≡◌, refl, ◌∙◌, sym}
 use mathlib.Core.Bool.{false}
 use native.Mathlib.Numerals.{add-one}
@@ -11,11 +10,6 @@ use Rattle.soundness.proofs.tree.senders_of.Goals as goal
 
 pub loop-r-init : goal.loop-r-init
 loop-r-init c = (omega arith, refl, λ tree e p inside. senders_start tree p inside)
-
-pub bounds-marks-wide : goal.bounds-marks-wide
-bounds-marks-wide c =
-    let inside = c.requires.inside c.loop-r.r (omega arith) in
-    omega (arith, c.wide.ensures.0)
 
 pub loop-r-preserved : goal.loop-r-preserved
 loop-r-preserved c = (

@@ -1,8 +1,7 @@
 -- `State::fill` meets its contract: a word that is too large is in no sound state, and else list by list.
 -- Assumes nothing.
-use mathlib.Core.Bool.{true, false, false≢true}
-use mathlib.Core.Path.{refl, sym, ap, ◌∙◌}
-use native.Mathlib.Omega.{arith}
+use mathlib.Core.Bool.{false≢true}
+use mathlib.Core.Path.{sym, ap, ◌∙◌}
 use Rattle.live_rules.specs.State.{live_in}
 use Rattle.state.proofs.Unfit.{counted_use, tree_unfit, heads_unfit, filled_inside}
 use Rattle.state.specs.Reading.{counts_of}

@@ -1,6 +1,6 @@
 -- `State::parts_sound` meets its contract: the tree decides, then the packets, and what is left is for the rows.
 -- Assumes nothing.
-use mathlib.Core.Bool.{true, false, false≢true}
+use mathlib.Core.Bool.{false≢true}
 use mathlib.Core.Path.{sym, ◌∙◌}
 use native.Mathlib.Omega.{arith}
 use Rattle.live_rules.specs.State.{live_in}
