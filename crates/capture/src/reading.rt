@@ -5,8 +5,8 @@ ghost use Rattle.pcap.specs.Headers.{record_bytes};
 use pcap::Sorting;
 use records::RECORD_BYTES;
 
-// Reads the records as arrivals, over the first words of three slices, and answers how many there are; 0 where the capture is refused
-// or a slice is too short.
+// Reads the records as arrivals, over the first words of three slices, and answers how many there are; 0, as of a capture without any, where the
+// capture is refused or a slice is too short.
 pub fn read_records(
     capture: &[u8],
     sorting: Sorting,

@@ -114,7 +114,7 @@ fn keep(
     next
 }
 
-// The number at its place, where the slice has it.
+// The number at its place, where the slice has it. (A `get_mut` in place of the test did not prove.)
 fn store(words: &mut [u32], place: usize, n: u32)
     ensures { words.new ≡ set words.old place n }
 {

@@ -20,7 +20,8 @@ struct Front {
     idle: bool,
 }
 
-// The event at place i before the way up: the line has finished its packet where its row is 0, else a packet has arrived for the class in that row.
+// The event at place i before the way up: the line has finished its packet where its row is 0, as the check of the list has it, else a packet
+// has arrived for the class in that row.
 fn meet<F: Finding>(
     tree: &TreeArrays,
     lengths: &[u32],

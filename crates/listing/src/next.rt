@@ -6,7 +6,8 @@ ghost use Rattle.listing.specs.Next.{NextOf};
 
 use words::{wide, word};
 
-// The next event: whether it is a finish, its two words, and its moment.
+// The next event: whether it is a finish, its two words, and its moment. Not an `Event`, since a packet of class 0 has the words of no event,
+// and is refused as they stand.
 #[derive(Clone, Copy)]
 pub struct Next {
     pub finish: bool,

@@ -162,7 +162,7 @@ fn put_bytes<const N: usize>(page: &mut Page<N>, figure: Fraction) {
     page.put_text(b" bytes");
     if figure.denominator != 1 {
         page.put_text(b", rounded up ");
-        page.put_number(figure.whole_bytes());
+        page.put_number(sheet::whole_bytes(figure.numerator, figure.denominator));
     }
     page.put_byte(10);
 }

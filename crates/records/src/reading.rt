@@ -34,7 +34,8 @@ fn read_record(
     lengths[k] = original(capture, layout, at);
 }
 
-// All records of a capture whose check found this layout and so many records, over the first words of three slices.
+// All records of a capture whose check found this layout and so many records, over the first words of three slices: columns, as the
+// definitions and the timetable have them.
 pub fn read(
     capture: &[u8],
     layout: Layout,

@@ -88,13 +88,13 @@ impl Fraction {
     {
         self.up_by_share(largest, share)?.plus_ticks(ticks)
     }
+}
 
-    // Rounded up to a whole byte.
-    pub fn whole_bytes(self) -> u64
-        ensures { RoundsUp (figure (terms self)) result }
-    {
-        self.numerator.div_ceil(self.denominator)
-    }
+// A fraction of bytes, rounded up to a whole byte; 0 for a denominator of 0, which no `Fraction` has.
+pub fn whole_bytes(numerator: u64, denominator: u64) -> u64
+    ensures { RoundsUp (figure (fraction numerator denominator)) result }
+{
+    shares::rounded_up(numerator, denominator)
 }
 
 // The figure after so many steps up from a row, from the row's own bytes, with as many ticks more at each step; none where the working
