@@ -1,7 +1,7 @@
 // What is printed of answers.
 use files::Stopped;
+use input::Refusal;
 use lines::{put_live_heading, put_live_line};
-use live_rules::LiveAnswer;
 use output::Page;
 
 // Room for the heading and for one answer (`Room: live-room` of the crate `forms`).
@@ -14,20 +14,9 @@ pub fn print_heading(rt: &HostRuntime) -> Result<(), Stopped> {
 }
 
 // Prints an answer under the heading.
-pub fn print_answer(rt: &HostRuntime, answer: LiveAnswer) -> Result<(), Stopped> {
+pub fn print_answer(rt: &HostRuntime, answer: Result<Option<u32>, Refusal>) -> Result<(), Stopped> {
     let mut page: Page<ANSWER_BYTES> = Page::blank();
     put_live_heading(&mut page);
     put_live_line(&mut page, answer);
     files::print(rt, &page)
-}
-
-// A refusal of a call as a whole.
-pub fn refusal(number: u32, place: u32, second: u32) -> LiveAnswer {
-    LiveAnswer {
-        number,
-        place,
-        second,
-        count: 0,
-        packet: 0,
-    }
 }

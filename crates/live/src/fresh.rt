@@ -1,8 +1,8 @@
 // live fresh TABLE STATE: makes the state of a class table.
-use crate::answers::{print_answer, refusal};
+use crate::answers::print_answer;
 use crate::refusals::say_table;
 use files::{Stopped, first, load_text, say_fault};
-use live_rules::{LiveAnswer, STATE_WORDS};
+use live_rules::STATE_WORDS;
 use sentences::{Columns, HELD_BYTES, HELD_ROWS};
 use state_files::store_state;
 
@@ -29,7 +29,7 @@ pub fn fresh(rt: &HostRuntime) -> Result<(), Stopped> {
             },
         ),
         Err(fault) => {
-            print_answer(rt, refusal(fault.number, fault.place, fault.second))?;
+            print_answer(rt, Err(fault))?;
             say_fault(rt, TABLE, fault, &text, size);
             Err(Stopped::Refused)
         }
@@ -39,18 +39,12 @@ pub fn fresh(rt: &HostRuntime) -> Result<(), Stopped> {
 // Makes the state and stores it. The count of rows is that of the file, of which the columns may have less.
 fn with_table(rt: &HostRuntime, rows: u64, table: Columns) -> Result<(), Stopped> {
     let mut state = [0u64; STATE_WORDS];
-    let answer = live_box::fresh(table.identifiers, table.parents, table.shares, &mut state);
-    if answer.number != 0 {
-        return Err(refuse(rt, answer, rows, table));
+    let made = live_box::fresh(table.identifiers, table.parents, table.shares, &mut state);
+    if let Err(refusal) = made {
+        print_answer(rt, Err(refusal))?;
+        say_table(rt, refusal, rows, table);
+        return Err(Stopped::Refused);
     }
     store_state(rt, STATE, &state)?;
-    print_answer(rt, answer)
-}
-
-fn refuse(rt: &HostRuntime, answer: LiveAnswer, rows: u64, table: Columns) -> Stopped {
-    if let Err(stopped) = print_answer(rt, answer) {
-        return stopped;
-    }
-    say_table(rt, answer, rows, table);
-    Stopped::Refused
+    print_answer(rt, Ok(None))
 }

@@ -44,10 +44,9 @@ fn take_each(
     for ((class, length), number) in list.classes.iter().zip(list.lengths).zip(numbers) {
         let answer = live_box::event(state, *class, *length);
         put_live_line(page, answer);
-        if answer.number == 0 {
-            taken = true;
-        } else {
-            *number = Some(answer.number);
+        match answer {
+            Ok(_) => taken = true,
+            Err(refusal) => *number = Some(refusal.number),
         }
     }
     taken

@@ -3,23 +3,17 @@ use crate::events::EVENTS;
 use crate::fresh::TABLE;
 use crate::states::STATE;
 use files::{begin_refusal, say};
-use input::Answer;
-use live_rules::{LiveAnswer, MOST_ACCEPTED, MOST_HELD};
+use input::Refusal;
+use live_rules::{MOST_ACCEPTED, MOST_HELD};
 use output::Page;
 use sentences::{
     Columns, Lists, SENTENCE_BYTES, fill, put_not_sending, put_wrong_event, table_sentence,
 };
 
 // Of a class table. The count of rows is that of the file.
-pub fn say_table(rt: &HostRuntime, answer: LiveAnswer, rows: u64, table: Columns) {
+pub fn say_table(rt: &HostRuntime, refusal: Refusal, rows: u64, table: Columns) {
     let mut page: Page<SENTENCE_BYTES> = Page::blank();
-    begin_refusal(rt, &mut page, answer.number, TABLE);
-    let refusal = Answer {
-        number: answer.number,
-        place: answer.place,
-        second: answer.second,
-        count: 0,
-    };
+    begin_refusal(rt, &mut page, refusal.number, TABLE);
     table_sentence(&mut page, refusal, rows, table);
     say(&page);
 }

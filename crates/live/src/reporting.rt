@@ -26,8 +26,10 @@ fn print(rt: &HostRuntime, state: &[u64], report: &[u64], lags: &[i64]) -> Resul
     requires { state_words ≤ length state.now }
 {
     let rows = rows_of(state[ROWS_WORD]);
-    let read = load_words(state, IDENTIFIERS_AT, rows, MOST_IDENTIFIER as u64);
-    let identifiers = first(&read.list, rows as u64);
+    let held = load_words(state, IDENTIFIERS_AT, rows, MOST_IDENTIFIER as u64).unwrap_or(
+        [0; MOST_ROWS],
+    );
+    let identifiers = first(&held, rows as u64);
     let mut page: Page<REPORT_BYTES> = Page::blank();
     lines::put_report(&mut page, identifiers, report, lags);
     files::print(rt, &page)

@@ -2,7 +2,7 @@
 ghost use Rattle.std.specs.Prelude.{◌≤◌, length};
 ghost use Rattle.live_rules.specs.Layout.{state_words};
 
-use crate::answers::{print_answer, refusal};
+use crate::answers::print_answer;
 use crate::refusals::say_unsound;
 use files::Stopped;
 use state_files::load_state;
@@ -20,10 +20,10 @@ pub fn load_sound(
     requires { state_words ≤ length state.old }
 {
     let whole = load_state(rt, STATE, state)?;
-    if whole && live_box::report(state, report, lags).number == 0 {
+    if whole && live_box::report(state, report, lags).is_ok() {
         return Ok(());
     }
-    print_answer(rt, refusal(20, 0, 0))?;
+    print_answer(rt, Err(tables::refusal(20, 0, 0)))?;
     say_unsound(rt);
     Err(Stopped::Refused)
 }
