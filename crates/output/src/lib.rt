@@ -1,14 +1,11 @@
 // Text put on a page: bytes of a fixed number, and how many of them are used. What finds no room is left out.
 #![tactic(auto)]
 
-mod signed;
-
 ghost use Rattle.std.specs.Prelude.{◌≡◌, ◌≤◌, [], ◌∷◌, ◌++◌, length, take};
 ghost use Rattle.output.specs.Pages as pages;
 ghost use Rattle.output.specs.Pages.{page_of, Puts};
 ghost use Rattle.output.specs.Numbers.{decimal, signed};
 
-use signed::magnitude;
 use std::marker::Model;
 
 #[derive(Drop)]
@@ -83,7 +80,7 @@ impl<const N: usize> Page<N> {
         if n < 0 {
             self.put_byte(45);
         }
-        self.put_number(magnitude(n));
+        self.put_number(n.unsigned_abs());
     }
 
     // A number, and the byte after it.

@@ -14,7 +14,7 @@ pub returns : goal.returns
 returns g c =
     let n = c.args.n in
     let same : to_z w64 (of_z w64 n) ≡ n = to_z-of_z w64 n c.ranges.n in
-    let size : c.magnitude.result ≡ nat_abs n = c.magnitude.ensures ∙ ap nat_abs same in
+    let size : c.unsigned_abs.result ≡ nat_abs n = c.unsigned_abs.ensures.value ∙ ap nat_abs same in
     elim c.if-n-lt0.branch [
       | then-n-lt0 w ↦ rw (below_zero n (rw same at w.if-n-lt0.true), ← size) (then _ _ _ (w.self-is ∙ w.put_byte.ensures) c.put_number.ensures)
       | else-n-lt0 w ↦ rw (not_below_zero n (rw same at w.if-n-lt0.false), ← size, ← w.self-is) c.put_number.ensures
