@@ -161,23 +161,14 @@ module _
       done_left = rw (← same, plain, held fine few, count fine)
 
   -- a fault of the text
-  pub fault_left : (fault : Refusal) → read ≡ fault_found fault → table_left_of (answer_of fault 0) lent ≡ table_read text size lent
-  unfolding fault_found rows_found fits
-  fault_left fault stopped = go (ℕ_discrete (text_fault text size).number 0)
+  pub fault_left : (fault : Refusal) → fault.number ≢ 0 → read ≡ fault_found fault → table_left_of (answer_of fault 0) lent ≡ table_read text size lent
+  unfolding fault_found nothing
+  fault_left fault some stopped = go (ℕ_discrete (text_fault text size).number 0)
     where
+      here : read.fault ≡ fault
+      here = ap (λ (r : Rows). r.fault) stopped
+
       go : Dec ((text_fault text size).number ≡ 0) → table_left_of (answer_of fault 0) lent ≡ table_read text size lent
-      go (yes fine) =
-          let same = sym stopped ∙ found fine (fits rows before) refl in
-          let zero_rows : 0 ≡ rows = ap (λ (r : Rows). r.rows) same in
-          let short : false ≡ fits rows before = ap (λ (r : Rows). r.kept) same in
-          let room : fits 0 before ≡ true
-          = rw (
-            le-leb 0 (length before.identifiers) (omega arith),
-            le-leb 0 (length before.parent_identifiers) (omega arith),
-            le-leb 0 (length before.shares) (omega arith),
-          ) in
-          absurd (true≢false (sym (short ∙ ap (λ (n : ℕ). fits n before) (sym zero_rows) ∙ room)))
-      go (no some) =
-          let here : read.fault ≡ fault = ap (λ (r : Rows). r.fault) stopped in
-          let number = λ (none : read.fault.number ≡ 0). some (sym (ap (λ (r : Refusal). r.number) (faulty some)) ∙ none) in
-          refused_left fault (sym (unfit_fault read words (fits read.rows lent) number ∙ here)) (rw here at number)
+      go (yes fine) = absurd (some (ap (λ (r : Refusal). r.number) (sym here ∙ none fine)))
+      go (no more) =
+          refused_left fault (sym (unfit_fault read words (fits read.rows lent) (rw here some) ∙ here)) some

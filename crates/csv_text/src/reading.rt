@@ -1,5 +1,5 @@
 // Reading a class table's text into lent slices. A refusal writes nothing.
-ghost use Rattle.std.specs.Prelude.{◌≡◌, ◌≤◌, ⊤, length};
+ghost use Rattle.std.specs.Prelude.{◌≡◌, ◌≢◌, ◌≤◌, ⊤, length, IfErr};
 ghost use Rattle.input.specs.Lent.{table_of};
 ghost use Rattle.rules.specs.Outcome.{over};
 ghost use Rattle.input.specs.Limits.{most_rows};
@@ -20,7 +20,8 @@ pub fn read_rows(
     parents: &mut [u32],
     shares: &mut [u32],
 ) -> Result<Counted, Refusal>
-    ensures { RowsRead text.now size (table_of identifiers.old parents.old shares.old)
+    ensures numbered { IfErr result (λ refusal. refusal.number ≢ 0) }
+    ensures read { RowsRead text.now size (table_of identifiers.old parents.old shares.old)
         (rows_left_of (rows_said result) (table_of identifiers.new parents.new shares.new)) }
 {
     if text.len() < size {
@@ -54,7 +55,8 @@ pub fn read_table(
     parents: &mut [u32],
     shares: &mut [u32],
 ) -> Result<u32, Refusal>
-    ensures { TableRead text.now size (table_of identifiers.old parents.old shares.old)
+    ensures numbered { IfErr result (λ refusal. refusal.number ≢ 0) }
+    ensures read { TableRead text.now size (table_of identifiers.old parents.old shares.old)
         (table_left_of (answered result) (table_of identifiers.new parents.new shares.new)) }
 {
     let mut row_identifiers = [0u32; MOST_ROWS];

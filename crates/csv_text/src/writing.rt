@@ -1,5 +1,5 @@
 // Writing a class table, and a report with its lags, as text into lent bytes. A refusal writes nothing.
-ghost use Rattle.std.specs.Prelude.{⊤};
+ghost use Rattle.std.specs.Prelude.{◌≢◌, ⊤, IfErr};
 ghost use Rattle.input.specs.Lent.{table_of};
 ghost use Rattle.input.specs.Refusals.{or_else};
 ghost use Rattle.forms.specs.Outcomes as outcomes;
@@ -24,7 +24,8 @@ pub fn write_table(
     shares: &[u32],
     text: &mut [u8],
 ) -> Result<u32, Refusal>
-    ensures { TableWritten (table_of identifiers.now parents.now shares.now) text.old
+    ensures numbered { IfErr result (λ refusal. refusal.number ≢ 0) }
+    ensures written { TableWritten (table_of identifiers.now parents.now shares.now) text.old
         (text_left_of (answered result) text.new) }
 {
     tables::rows_refused(identifiers.len(), parents.len(), shares.len())?;
@@ -46,7 +47,8 @@ pub fn write_report(
     lags: &[i64],
     text: &mut [u8],
 ) -> Result<u32, Refusal>
-    ensures { ReportWritten identifiers.now report.now lags.now text.old
+    ensures numbered { IfErr result (λ refusal. refusal.number ≢ 0) }
+    ensures written { ReportWritten identifiers.now report.now lags.now text.old
         (text_left_of (answered result) text.new) }
 {
     report_refused(identifiers.len(), report.len(), lags.len())?;

@@ -1,5 +1,5 @@
 // A fresh state of a class table: the refusals in their order, then every word in use.
-ghost use Rattle.std.specs.Prelude.{◌≡◌, ◌≤◌, length};
+ghost use Rattle.std.specs.Prelude.{◌≡◌, ◌≢◌, ◌≤◌, length, IfErr};
 ghost use Rattle.input.specs.Limits.{most_rows};
 ghost use Rattle.input.specs.Classes.{Table, tree_of};
 ghost use Rattle.input.specs.Lent.{table_of};
@@ -48,7 +48,8 @@ pub fn fresh(
     shares: &[u32],
     state: &mut [u64],
 ) -> Result<(), Refusal>
-    ensures { Made (table_of identifiers.now parent_identifiers.now shares.now) state.old (left_of (done_of result) state.new) }
+    ensures numbered { IfErr result (λ refusal. refusal.number ≢ 0) }
+    ensures made { Made (table_of identifiers.now parent_identifiers.now shares.now) state.old (left_of (done_of result) state.new) }
 {
     tables::rows_refused(identifiers.len(), parent_identifiers.len(), shares.len())?;
     if state.len() < STATE_WORDS {

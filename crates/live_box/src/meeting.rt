@@ -1,5 +1,5 @@
 // One event of a live box: refusals first, then what it makes of the state.
-ghost use Rattle.std.specs.Prelude.{◌≡◌, ℕ};
+ghost use Rattle.std.specs.Prelude.{◌≡◌, ◌≢◌, ℕ, IfErr};
 ghost use Rattle.std.proofs.Math.ListN as lists;
 ghost use Rattle.input.specs.declared.Event.TheVariants.{Arrival, Finish};
 ghost use Rattle.tables.specs.Judged.{Judged};
@@ -36,7 +36,8 @@ fn arrival(
     size: u32,
 ) -> Result<Option<u32>, Refusal>
     requires { Read words.old state.old }
-    ensures { left_of (answer_of result) words.new ≡ met words.old size (Arrival class size) }
+    ensures numbered { IfErr result (λ refusal. refusal.number ≢ 0) }
+    ensures meets { left_of (answer_of result) words.new ≡ met words.old size (Arrival class size) }
 {
     let row = tables::row_of(&state.identifiers[..state.rows_count], class);
     let k = checks::check_packet(&state.senders, 0, row, size)?;
@@ -47,7 +48,8 @@ fn arrival(
 // The line has finished its packet, with this length word: 13, 14.
 fn finish(words: &mut [u64], state: &mut State, word: u32) -> Result<Option<u32>, Refusal>
     requires { Read words.old state.old }
-    ensures { left_of (answer_of result) words.new ≡ met words.old word Finish }
+    ensures numbered { IfErr result (λ refusal. refusal.number ≢ 0) }
+    ensures meets { left_of (answer_of result) words.new ≡ met words.old word Finish }
 {
     checks::check_finish(0, word, state.rows.heads[0] == 0)?;
     Ok(taking::take_finish(words, state))
@@ -56,7 +58,8 @@ fn finish(words: &mut [u64], state: &mut State, word: u32) -> Result<Option<u32>
 // One event: 3, then 20, then what refuses the event; a refusal leaves the words as they are. The name of the packet that went on the line, if one
 // did.
 pub fn event(state: &mut [u64], class: u32, length: u32) -> Result<Option<u32>, Refusal>
-    ensures { Took state.old class length (left_of (answer_of result) state.new) }
+    ensures numbered { IfErr result (λ refusal. refusal.number ≢ 0) }
+    ensures took { Took state.old class length (left_of (answer_of result) state.new) }
 {
     if state.len() < STATE_WORDS {
         return Err(tables::refusal(3, 0, 0));

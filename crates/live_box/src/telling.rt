@@ -1,5 +1,5 @@
 // The report and the lags of a kept state.
-ghost use Rattle.std.specs.Prelude.{◌≡◌, ◌||◌, ◌*◌, ◌≤◌, ltb, length};
+ghost use Rattle.std.specs.Prelude.{◌≡◌, ◌≢◌, ◌||◌, ◌*◌, ◌≤◌, ltb, length, IfErr};
 ghost use Rattle.input.specs.Limits.{most_rows, report_words};
 ghost use Rattle.live_rules.specs.Layout.{state_words};
 ghost use Rattle.live_rules.specs.State.{Live};
@@ -34,7 +34,8 @@ fn tell(state: &State, report: &mut [u64], lags: &mut [i64])
 
 // The report of a kept state, with its lags: 3, then 20; a refusal writes nothing.
 pub fn report(state: &[u64], report: &mut [u64], lags: &mut [i64]) -> Result<(), Refusal>
-    ensures { Tells state.now report.old lags.old (told_of (done_of result) report.new lags.new) }
+    ensures numbered { IfErr result (λ refusal. refusal.number ≢ 0) }
+    ensures told { Tells state.now report.old lags.old (told_of (done_of result) report.new lags.new) }
 {
     if too_short(state.len(), report.len(), lags.len()) {
         return Err(tables::refusal(3, 0, 0));

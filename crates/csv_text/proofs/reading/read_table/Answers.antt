@@ -7,7 +7,8 @@ use lib.ListN.{length, replicate, length-replicate}
 use Rattle.input.specs.Lent.{table_of}
 use Rattle.forms.specs.Outcomes.{rows_found}
 use Rattle.csv_text.specs.Kept.{unfit}
-use Rattle.csv_text.proofs.Judging.{err_is, numbered}
+use Rattle.tables.proofs.Judging.{err_is}
+use Rattle.csv_text.proofs.Judging.{err_number, numbered}
 use Rattle.csv_text.proofs.Whole.{fault_left, refused_left, few_read, copyable, done_left}
 use borrow.Author.Rules.{rules}
 use Rattle.csv_text.proofs.reading.read_table.Goals as goal
@@ -23,7 +24,11 @@ pub returns-in_err-read : goal.returns-in_err-read
 returns-in_err-read c =
     let args = c.args in
     let lent = table_of args.identifiers.now args.parents.now args.shares.now in
-    rw (err_is _ _ c.from_residual.ensures.1) (fault_left args.text.now args.size _ _ lent _ wide c.in_err-read.ensures _ refl)
+    let some = c.in_err-read.ensures.numbered in
+    record {
+      numbered = err_number _ _ c.from_residual.ensures.1 some;
+      read = rw (err_is _ _ c.from_residual.ensures.1) (fault_left args.text.now args.size _ _ lent _ wide c.in_err-read.ensures.read _ some refl);
+    }
 
 pub returns-in_err-unfit : goal.returns-in_err-unfit
 unfolding rows_found
@@ -32,8 +37,11 @@ returns-in_err-unfit c =
     let lent = table_of args.identifiers.now args.parents.now args.shares.now in
     let refuses = c.in_err-unfit.ensures in
     let asked = refuses.1 ∙ ap (unfit _ _) (c.fits-room.ensures lent refl refl refl) in
-    rw (err_is _ _ c.from_residual-in_err-unfit.ensures.1)
-    (refused_left args.text.now args.size _ _ lent _ wide c.in_ok-read.ensures _ asked (numbered _ _ refuses))
+    let some = numbered _ _ refuses in
+    record {
+      numbered = err_number _ _ c.from_residual-in_err-unfit.ensures.1 some;
+      read = rw (err_is _ _ c.from_residual-in_err-unfit.ensures.1) (refused_left args.text.now args.size _ _ lent _ wide c.in_ok-read.ensures.read _ asked some);
+    }
 
 pub copy_rows-requires : goal.copy_rows-requires
 unfolding rows_found
@@ -41,7 +49,7 @@ copy_rows-requires c =
     let args = c.args in
     let lent = table_of args.identifiers.now args.parents.now args.shares.now in
     let asked = ap (unfit _ _) (c.fits-room.ensures lent refl refl refl) in
-    copyable args.text.now args.size _ _ lent _ wide c.in_ok-read.ensures _ asked c.in_ok-unfit.ensures.0 (search rules) (search rules) (search rules)
+    copyable args.text.now args.size _ _ lent _ wide c.in_ok-read.ensures.read _ asked c.in_ok-unfit.ensures.0 (search rules) (search rules) (search rules)
 
 pub overflow_cast-result : goal.overflow_cast-result
 unfolding rows_found
@@ -49,7 +57,7 @@ overflow_cast-result c =
     let args = c.args in
     let lent = table_of args.identifiers.now args.parents.now args.shares.now in
     let asked = ap (unfit _ _) (c.fits-room.ensures lent refl refl refl) in
-    let few = few_read args.text.now args.size _ _ lent _ wide c.in_ok-read.ensures _ asked c.in_ok-unfit.ensures.0 in
+    let few = few_read args.text.now args.size _ _ lent _ wide c.in_ok-read.ensures.read _ asked c.in_ok-unfit.ensures.0 in
     record { fits = omega (arith, few) }
 
 pub returns : goal.returns
@@ -58,4 +66,7 @@ returns c =
     let args = c.args in
     let lent = table_of args.identifiers.now args.parents.now args.shares.now in
     let asked = ap (unfit _ _) (c.fits-room.ensures lent refl refl refl) in
-    rw c.copy_rows.ensures (done_left args.text.now args.size _ _ lent _ wide c.in_ok-read.ensures _ asked c.in_ok-unfit.ensures.0)
+    record {
+      numbered = tt;
+      read = rw c.copy_rows.ensures (done_left args.text.now args.size _ _ lent _ wide c.in_ok-read.ensures.read _ asked c.in_ok-unfit.ensures.0);
+    }

@@ -8,8 +8,8 @@ use Rattle.input.specs.Refusals.{nothing}
 use Rattle.input.specs.Lent.{table_of}
 use Rattle.forms.specs.Outcomes.{rows_found}
 use Rattle.csv_text.specs.Kept.{first_rows}
-use Rattle.tables.proofs.Judging.{errs, handed}
-use Rattle.csv_text.proofs.Judging.{err_is, numbered}
+use Rattle.tables.proofs.Judging.{err_is, errs, handed}
+use Rattle.csv_text.proofs.Judging.{numbered}
 use Rattle.csv_text.proofs.Cases.{unfit_count, unfit_short, unfit_own, few_rows, rows_right, own_refusal}
 use Rattle.csv_text.proofs.reading.unfit.Goals as goal
 

@@ -8,8 +8,8 @@ use Rattle.forms.specs.Outcomes.{results_refused}
 use Rattle.input.specs.declared.Refusal.{Refusal}
 use Rattle.tables.specs.Answers.{refusal_of}
 use Rattle.tables.proofs.Firsts.{or_else_first, or_else_second}
-use Rattle.tables.proofs.Judging.{errs}
-use Rattle.csv_text.proofs.Judging.{err_is, numbered}
+use Rattle.tables.proofs.Judging.{err_is, errs}
+use Rattle.csv_text.proofs.Judging.{numbered}
 use Rattle.csv_text.proofs.Cases.{few_rows}
 use Rattle.csv_text.proofs.writing.report_refused.Goals as goal
 use Rattle.csv_text.proofs.writing.report_refused.Goals.{then-report-rows-via-then-report-rows, then-report-rows-via-else-report-rows+then-lags-rows}

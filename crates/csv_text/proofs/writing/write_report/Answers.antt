@@ -3,7 +3,7 @@
 use mathlib.Core.Path.{sym, ap}
 use native.Mathlib.Omega.{arith}
 use lib.ListN.{length}
-use Rattle.csv_text.proofs.Judging.{err_is}
+use Rattle.tables.proofs.Judging.{err_is, handed_number}
 use Rattle.csv_text.proofs.Written.{report_unfit, report_fits, report_whole, report_short, report_fine}
 use Rattle.csv_text.proofs.writing.write_report.Goals as goal
 
@@ -11,7 +11,10 @@ pub returns-in_err-report_refused : goal.returns-in_err-report_refused
 returns-in_err-report_refused c =
     let args = c.args in
     let refuses = c.in_err-report_refused.ensures in
-    rw (err_is _ _ c.from_residual.ensures.1, refuses.1) (sym (report_unfit args.identifiers.now args.report.now args.lags.now args.text.now refuses.0))
+    record {
+      numbered = handed_number _ _ _ c.from_residual.ensures.1 refuses;
+      written = rw (err_is _ _ c.from_residual.ensures.1, refuses.1) (sym (report_unfit args.identifiers.now args.report.now args.lags.now args.text.now refuses.0));
+    }
 
 pub returns-then-text-bytes : goal.returns-then-text-bytes
 returns-then-text-bytes c =
@@ -20,7 +23,10 @@ returns-then-text-bytes c =
     let fits = c.in_ok-report_refused.ensures.0 in
     let whole = report_whole args.identifiers.now args.report.now args.lags.now lent fits _ _ _ c.blank-page.ensures.unused c.blank-page.ensures.size
     c.put_report.ensures c.text-bytes.ensures in
-    rw c.refusal.ensures (sym (report_short args.identifiers.now args.report.now args.lags.now lent fits (omega (arith, ap length whole))))
+    record {
+      numbered = rw c.refusal.ensures (λ none. omega arith);
+      written = rw c.refusal.ensures (sym (report_short args.identifiers.now args.report.now args.lags.now lent fits (omega (arith, ap length whole))));
+    }
 
 pub overflow_cast-result : goal.overflow_cast-result
 overflow_cast-result c =
@@ -38,4 +44,7 @@ returns c =
     let fits = c.in_ok-report_refused.ensures.0 in
     let whole = report_whole args.identifiers.now args.report.now args.lags.now lent fits _ _ _ c.blank-page.ensures.unused c.blank-page.ensures.size
     c.put_report.ensures c.text-bytes.ensures in
-    rw (c.copy.ensures, whole) (sym (report_fine args.identifiers.now args.report.now args.lags.now lent fits (omega (arith, ap length whole))))
+    record {
+      numbered = tt;
+      written = rw (c.copy.ensures, whole) (sym (report_fine args.identifiers.now args.report.now args.lags.now lent fits (omega (arith, ap length whole))));
+    }

@@ -2,6 +2,7 @@
 -- Assumes nothing.
 use mathlib.Core.Path.{◌≡◌, sym, ◌∙◌}
 use mathlib.Core.Bool.{true}
+use native.Mathlib.Omega.{arith}
 use Rattle.live_rules.specs.State.{live_in}
 use Rattle.live_rules.specs.Soundness.{sound}
 use Rattle.live_laws.proofs.Calls.{holds_in}
@@ -11,14 +12,20 @@ use Rattle.live_box.proofs.telling.report.Goals as goal
 pub returns-then-too_short : goal.returns-then-too_short
 returns-then-too_short c =
     let a = c.args in
-    short_left a.state.now a.report.now a.lags.now c.refusal.result c.refusal.ensures (sym c.too_short.ensures ∙ c.if-too_short.true)
+    record {
+      numbered = rw c.refusal.ensures (λ none. omega arith);
+      told = short_left a.state.now a.report.now a.lags.now c.refusal.result c.refusal.ensures (sym c.too_short.ensures ∙ c.if-too_short.true);
+    }
 
 pub returns-then-not-open : goal.returns-then-not-open
 returns-then-not-open c =
     let a = c.args in
-    unsound_left a.state.now a.report.now a.lags.now (sym c.too_short.ensures ∙ c.if-too_short.false) c.refusal-then-not-open.result
-    c.refusal-then-not-open.ensures
-    (sym c.open.ensures.0 ∙ c.if-not-open.true)
+    let room = sym c.too_short.ensures ∙ c.if-too_short.false in
+    record {
+      numbered = rw c.refusal-then-not-open.ensures (λ none. omega arith);
+      told = unsound_left a.state.now a.report.now a.lags.now room c.refusal-then-not-open.result c.refusal-then-not-open.ensures
+          (sym c.open.ensures.0 ∙ c.if-not-open.true);
+    }
 
 pub tell-requires : goal.tell-requires
 tell-requires c =
@@ -36,5 +43,8 @@ pub returns : goal.returns
 returns c =
     let a = c.args in
     let room = sym c.too_short.ensures ∙ c.if-too_short.false in
-    written_left a.state.now a.report.now a.lags.now room _ _ (sym c.open.ensures.0 ∙ c.if-not-open.false)
-    (c.tell.ensures (live_in a.state.now) (c.open.ensures.1 c.if-not-open.false))
+    record {
+      numbered = tt;
+      told = written_left a.state.now a.report.now a.lags.now room _ _ (sym c.open.ensures.0 ∙ c.if-not-open.false)
+          (c.tell.ensures (live_in a.state.now) (c.open.ensures.1 c.if-not-open.false));
+    }
