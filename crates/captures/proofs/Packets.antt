@@ -15,7 +15,6 @@ use Rattle.input.specs.Classes.{Table, Tree, tree_of}
 use Rattle.input.specs.Events.{Events, count}
 use Rattle.input.specs.Refusals.{Room, nothing, given, or_else, first, first_below, rows_refused, events_refused, room_refused, table_refused}
 use Rattle.input.specs.Lent.{events_of, room_with}
-use Rattle.arrays.specs.declared.TreeArrays.{TreeArrays}
 use Rattle.arrays.specs.Arrays.{tree_in}
 use Rattle.rules.specs.Outcome.{Lent, Outcome, room_of, refusing}
 use Rattle.rules.specs.Refused.{event_refused, refused}
@@ -77,10 +76,7 @@ module _ (table : Table) (rows_ok : (rows_refused table).number ≡ 0) where
   module _ (reading : Reading) (is : reading ≡ accepting (tree_of table)) (fine : (table_refused table).number ≡ 0) where
     pub tree_same : tree_in (length table.identifiers) table.identifiers reading.tree ≡ tree_of table
     unfolding accepting
-    tree_same =
-        let arrays = ap (λ (r : Reading). r.tree) is in
-        same_tree table reading.tree.parents reading.tree.depths reading.tree.shares (ap (λ (t : TreeArrays). t.parents) arrays)
-        (ap (λ (t : TreeArrays). t.depths) arrays) (ap (λ (t : TreeArrays). t.shares) arrays)
+    tree_same = same_tree table reading.tree (ap (λ (r : Reading). r.tree) is)
 
     pub ground : Ground (tree_in (length table.identifiers) table.identifiers reading.tree) table.identifiers reading.senders
     unfolding accepting
