@@ -17,11 +17,7 @@ const BESIDE_BYTES: usize = 131072 + 4;
 
 // Puts this state into the file that an argument names, in the place of what it holds; where that fails, it stays as it was, and that
 // is said.
-pub fn store_state(
-    rt: &(impl Env + Files),
-    place: usize,
-    state: &[u64],
-) -> Result<(), Stopped>
+pub fn store_state(rt: &(impl Env + Files), place: usize, state: &[u64]) -> Result<(), Stopped>
     requires { state_words ≤ length state.now }
 {
     let mut bytes = [0u8; STATE_BYTES];
