@@ -9,7 +9,8 @@ ghost use Rattle.arrays.specs.Arrays.{rows_in, no_tree, no_counts};
 
 use input::{MOST_ROWS, RowLongs, RowWords};
 
-// Each row's parent, depth and share.
+// Each row's parent, depth and share. This and the next two are arrays side by side, as the definitions' `Tree` and `Rows` and the words of a live
+// state have them: clauses speak of one list at a time.
 #[derive(Clone, Copy)]
 pub struct TreeArrays {
     pub parents: RowWords,

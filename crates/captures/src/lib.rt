@@ -56,7 +56,7 @@ fn first_refused(
     list_refused(events, classes, lengths)
 }
 
-// A list that was made, run; where that is done it is copied.
+// A list that was made, run; where that is done it is copied. Slices stand one by one, here and below, as the run takes them.
 fn run_list<F: Finding>(
     identifiers: &[u32],
     parent_identifiers: &[u32],

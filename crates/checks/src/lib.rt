@@ -31,7 +31,8 @@ pub struct ResultRoom {
     pub working: usize,
 }
 
-// A whole input that nothing refuses: the table as it was read, and for each event the row of its class, 0 for a finish.
+// A whole input that nothing refuses: the table as it was read, and for each event the row of its class, 0 for a finish, as in the
+// definitions (`EventRows: row_for`): a byte for an event.
 #[derive(Clone, Copy)]
 pub struct Checked {
     pub reading: Reading,

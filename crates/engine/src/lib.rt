@@ -17,7 +17,8 @@ use checks::ResultRoom;
 use choosing::Finding;
 use input::{EventRows, MOST_ROWS, Refusal, RowMarks};
 
-// An input that is not refused: its events in turn, and then the results. So many packets have gone on the line.
+// An input that is not refused: its events in turn, and then the results. So many packets have gone on the line. Slices
+// stand one by one, as C lends them.
 fn serve<F: Finding>(
     identifiers: &[u32],
     classes: &[u32],

@@ -14,7 +14,7 @@ use words::{long, wide};
 
 // ── the head ──
 
-// A head: its packet's name + 1 and 0 where there is none, with that packet's length and class.
+// A head, as the state's words have it: its packet's name + 1 and 0 where there is none, with that packet's length and class.
 #[derive(Clone, Copy, PartialEq)]
 struct Head {
     packet: u32,

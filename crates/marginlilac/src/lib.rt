@@ -16,7 +16,7 @@ use heaps::Heaps;
 use input::{MOST_EVENTS, MOST_ROWS, REPORT_WORDS, Refusal};
 use looking::Looking;
 
-// Bytes that make no whole word, in slices of so many bytes together.
+// Bytes that make no whole word, in slices of so many bytes together. C lends the slices one by one, and so they stand throughout.
 fn spare(
     identifiers: usize,
     parents: usize,

@@ -49,7 +49,8 @@ pub fn arrive(
     on_line(idle, rows.heads[0])
 }
 
-// The line has finished its packet; the next of its class, if it has one, has this place + 1 and this length.
+// The line has finished its packet; the next of its class, if it has one, has this place + 1 and this length. Both are 0 else, as the
+// words of a live state have it.
 pub fn finish(
     n: usize,
     tree: &TreeArrays,

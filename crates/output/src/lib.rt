@@ -68,6 +68,7 @@ impl<const N: usize> Page<N> {
         self.put_byte(48 + (n % 10) as u8);
     }
 
+    // A word is widened at each of its calls otherwise.
     pub fn put_word(&mut self, n: u32)
         ensures { Puts (decimal n) self.old self.new }
     {

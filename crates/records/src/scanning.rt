@@ -51,7 +51,7 @@ fn begun_refused(
     Ok(())
 }
 
-// The records of a capture whose file header passed.
+// The records of a capture whose file header passed. Each says how far it goes, so no count of turns is known before.
 fn check_records(capture: &[u8], layout: Layout) -> Result<Scan, Refusal>
     requires { (header_bytes ≤ length capture.now) × (layout ≡ layout_of capture.now) }
     ensures { Judged (records_refused capture.now) (scan_of capture.now) result }

@@ -204,7 +204,7 @@ fn of_event<const N: usize>(
     put_wrong_event(page, refusal.number, class, word(list.lengths, event));
 }
 
-// The row with this identifier, as far as a table can have rows; 0 past them.
+// The row with this identifier, as far as a table can have rows; 0 past them, as in the definitions (`Named: row_with`).
 #[tactic(auto, unfolding(crate::specs::Named::row_with))]
 fn row_with(identifiers: &[u32], identifier: u32) -> u32
     ensures { result ≡ named.row_with identifier identifiers.now }

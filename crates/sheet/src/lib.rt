@@ -14,7 +14,7 @@ pub use fraction::Fraction;
 use input::{PACKETS_A_STEP, SCALE, TICKS, TICKS_A_STEP, WHOLE};
 use words::word;
 
-// The greatest number that divides both, by Euclid: what divides two numbers divides the rest of one by the other.
+// The greatest number that divides both, by Euclid: what divides two numbers divides the rest of one by the other. It counts no turns.
 fn common(a: u64, b: u64) -> u64
     requires { 0 < b }
     ensures { result ≡ greatest a b b }

@@ -39,8 +39,8 @@ pub fn arrive(
     hierarchy::arrive(tree, rows, place, k, length)
 }
 
-// The line's packet leaves, and its class goes on with the next one: `next` is that packet's place + 1, or 0 where there is none. The class,
-// from which the way up is gone then.
+// The line's packet leaves, and its class goes on with the next one: `next` is that packet's place + 1, or 0 where there is none, as the
+// lent links have it. The class, from which the way up is gone then.
 pub fn depart(
     tree: &TreeArrays,
     rows: &mut RowArrays,

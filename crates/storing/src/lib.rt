@@ -86,7 +86,7 @@ pub fn store_longs(state: &mut [u64], at: usize, n: usize, list: &RowLongs)
     state[at..at + n].copy_from_slice(&list[..n]);
 }
 
-// The same of shorter words.
+// The same of shorter words, each of which is widened: so no slice is copied whole.
 pub fn store_words(state: &mut [u64], at: usize, n: usize, list: &[u32])
     requires rows_few { n ≤ most_rows }
     requires state_room { at + most_rows ≤ lists.length state.old }
@@ -183,7 +183,8 @@ pub fn put_packet(state: &mut [u64], m: usize, class: usize, size: u32, name: u3
     state[NAMES_AT + m] = words::long(name);
 }
 
-// Of the m words from a place on the one at index i goes, and the gap is closed; the last word stays where it was too.
+// Of the m words from a place on the one at index i goes, and the gap is closed; the last word stays where it was too. (The library
+// has no copy within a slice.)
 fn close(state: &mut [u64], at: usize, m: usize, i: usize)
     requires i_held { i < m }
     requires packets_few { m ≤ most_held }

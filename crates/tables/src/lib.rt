@@ -141,7 +141,7 @@ fn class_refused(
     Ok(())
 }
 
-// The row before row r that has this identifier; r where there is none.
+// The row before row r that has this identifier; r where there is none, as in the definitions (`Classes: earlier`).
 fn earlier(identifiers: &[u32], r: usize, identifier: u32) -> usize
     requires { r ≤ length identifiers.now }
     ensures { ((table : Table) → table.identifiers ≡ identifiers.now → result ≡ earlier table r identifier) × (result ≤ r) }

@@ -19,7 +19,7 @@ pub enum Field {
 }
 
 // A line as far as it is read: how many bytes of the heading it has, while it has no others; the commas, where 2 stands for two
-// or more; the first two fields; and whether a CR was read last, which is part of the line only if no LF follows.
+// or more, as in the definitions (`Reading: commas_with`); the first two fields; and whether a CR was read last, which is part of the line only if no LF follows.
 #[derive(Clone, Copy)]
 pub struct Line {
     pub agreed: Option<usize>,

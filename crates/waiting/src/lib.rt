@@ -11,7 +11,7 @@ use heaps::Heaps;
 use input::{MOST_ROWS, RowLongs};
 use rules::Choice;
 
-// Whether k is a child, not 0, and its start is at most v.
+// Whether k is a child, not 0, which is an empty heap's root, and its start is at most v.
 #[tactic(auto, unfolding(crate::specs::Waiting::started))]
 fn started(starts: &RowLongs, v: u64, k: u8) -> bool
     ensures { result ≡ started starts.now v k }
