@@ -1,6 +1,7 @@
 -- A table's file in the slices of its rows. Which bytes the system gives nothing can say, but the rows are those of some text.
-use Rattle.std.specs.Prelude.{ℕ, ◌≡◌, Bool, cond, List, Result, Ok, Err}
+use Rattle.std.specs.Prelude.{ℕ, ◌≡◌, Bool, cond, List, Result, Ok, Err, replicate}
 use Rattle.input.specs.Classes.{Table}
+use Rattle.input.specs.Lent.{table_of}
 use Rattle.input.specs.declared.Refusal.{Refusal}
 use Rattle.forms.specs.declared.Counted.{Counted}
 use Rattle.forms.specs.Outcomes.{rows_left_of, rows_read, rows_said}
@@ -23,3 +24,7 @@ pub record LoadsTable (lent left : Table) (r : Result ℕ Stopped) : Type 0 wher
   pub failed : Bool
   pub written : Bool
   pub outcome : r ≡ cond failed none (loaded written read)
+
+-- the columns of a program before it reads, with one row more than a table may have
+unfoldable pub no_rows : Table
+no_rows = table_of (replicate 257 0) (replicate 257 0) (replicate 257 0)

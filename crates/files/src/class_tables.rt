@@ -1,6 +1,7 @@
 // Reading a class table's file into its rows.
 ghost use Rattle.input.specs.Lent.{table_of};
-ghost use Rattle.files.specs.Tables.{LoadsTable};
+ghost use Rattle.std.specs.Prelude.{◌≡◌, IfOk, Ok, take};
+ghost use Rattle.files.specs.Tables.{LoadsTable, no_rows};
 
 use crate::Stopped;
 use crate::ending::begin_refusal;
@@ -22,10 +23,10 @@ pub struct Table {
 }
 
 impl Table {
-    pub fn load(
-        rt: &(impl Env + Files + Input + Print),
-        argument: usize,
-    ) -> Result<Table, Stopped> {
+    // Reads the table that an argument names, as `load_table` does.
+    pub fn load(rt: &(impl Env + Files + Input + Print), argument: usize) -> Result<Table, Stopped>
+        ensures { IfOk result (λ t. LoadsTable no_rows (table_of t.identifiers t.parents t.shares) (Ok t.rows)) }
+    {
         let mut table = Table {
             rows: 0,
             identifiers: [0; HELD_ROWS],
@@ -42,7 +43,11 @@ impl Table {
         Ok(table)
     }
 
-    pub fn columns(&self) -> Columns<'_> {
+    pub fn columns(&self) -> Columns<'_>
+        ensures identifiers { result.identifiers.now ≡ take self.now.rows self.now.identifiers }
+        ensures parents { result.parents.now ≡ take self.now.rows self.now.parents }
+        ensures shares { result.shares.now ≡ take self.now.rows self.now.shares }
+    {
         Columns {
             identifiers: first(&self.identifiers, self.rows),
             parents: first(&self.parents, self.rows),

@@ -9,14 +9,14 @@ mod handing;
 mod opening;
 mod reading;
 mod unlisted;
-mod unreadable;
+pub mod unreadable;
 mod whole;
 mod writing;
 
 pub use arguments::{argument, argument_count};
 pub use class_tables::{Table, load_table, say_fault};
 pub use ending::{NO_FILE, begin_refusal, complain, end_with};
-pub use handing::{print, print_answer, say};
+pub use handing::{STDERR_FILENO, hand_over, print, print_answer, print_lent, say};
 pub use opening::{Opened, argument_is_input, input_twice, open, text_of, twice};
 pub use reading::{first, judged, keep, load, read_some};
 pub use unreadable::cannot_open;

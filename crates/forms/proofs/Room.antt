@@ -8,11 +8,15 @@ use lib.Dec.{eqb}
 use lib.IntN.{ℤ, pos}
 use lib.ListN.{length, get_or, take, length-append, length-take}
 use Rattle.output.specs.Quoted.{bytes_of}
+use Rattle.std.specs.Prelude.{Result, Ok, Err}
 use Rattle.input.specs.declared.Answer.{Answer}
+use Rattle.input.specs.declared.Refusal.{Refusal}
+use Rattle.input.specs.Refusals.{nothing}
 use Rattle.input.specs.Limits.{report_words}
 use Rattle.input.specs.Classes.{Table}
 use Rattle.output.proofs.Numbers.{decimal_length, signed_length}
 use Rattle.forms.specs.Bytes.{table_heading, report_heading, answer_heading, order_heading}
+use Rattle.forms.specs.Outcomes.{answer_of, result_text}
 use Rattle.forms.specs.Texts.{row_line, row_lines, table_text, report_fields, report_line, report_lines, report_text, answer_text, word_lines, order_text, run_text, live_line}
 
 -- ── a class table ──
@@ -105,6 +109,13 @@ run_room answer identifiers order report lags few fits =
     either (eqb answer.number 0) (order_text (take answer.count order)) (report_text identifiers report lags) 1480140 (omega arith)
     in
     simp length-append (omega arith)
+
+-- what is printed of a run's result, refused or done
+pub result_room :
+    (result : Result ℕ Refusal) (identifiers order report : List ℕ) (lags : List ℤ) → length identifiers ≤ 257 → length order ≤ 65536
+    → length (result_text result identifiers order report lags) ≤ 1480252
+result_room (Ok count) identifiers order report lags few fits = run_room (answer_of nothing count) identifiers order report lags few fits
+result_room (Err refusal) identifiers order report lags few fits = let short = answer_room (answer_of refusal 0) in omega (arith, short)
 
 -- ── an answer of a live box ──
 

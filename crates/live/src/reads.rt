@@ -1,5 +1,5 @@
 // Taking the events of one read: each is answered, the state is stored, the answers are printed, and what was refused is said.
-ghost use Rattle.std.specs.Prelude.{◌≤◌, length};
+ghost use Rattle.std.specs.Prelude.{◌≡◌, ◌≤◌, length};
 ghost use Rattle.live_rules.specs.Layout.{state_words};
 
 use crate::refusals::say_events;
@@ -22,7 +22,7 @@ const ANSWERS_BYTES: usize = 106 * MOST_A_READ;
 pub fn take(rt: &HostRuntime, list: Lists, before: u64, state: &mut [u64]) -> Result<bool, Stopped>
     requires { state_words ≤ length state.old }
 {
-    let mut page: Page<ANSWERS_BYTES> = Page::blank();
+    let mut page = blank();
     let mut numbers = [None; MOST_A_READ];
     if take_each(list, state, &mut page, &mut numbers) {
         store_state(rt, STATE, state)?;
@@ -30,6 +30,13 @@ pub fn take(rt: &HostRuntime, list: Lists, before: u64, state: &mut [u64]) -> Re
     files::print(rt, &page)?;
     say_events(rt, &numbers, list, before, state[IDENTIFIERS_AT]);
     Ok(numbers.iter().any(|number| number.is_some()))
+}
+
+// A page with nothing on it, and room for the answers of any read.
+fn blank() -> Page<ANSWERS_BYTES>
+    ensures { length result.bytes ≡ 1736704 }
+{
+    Page::blank()
 }
 
 // Takes the events one after the other, puts their answers on the page and keeps the numbers of those that are refused. Answers whether

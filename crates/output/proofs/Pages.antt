@@ -5,9 +5,11 @@ use mathlib.Core.Path.{◌≡◌, refl, sym, ap, ◌∙◌}
 use mathlib.Core.List.{List, [], ◌∷◌, ◌++◌, append_assoc, append-nil}
 use native.Mathlib.Numerals.{add-one}
 use native.Mathlib.Omega.{arith}
-use lib.ListN.{length, get_or, drop, set, length-append, length-drop}
+use lib.ListN.{length, get_or, drop, set, length-append, length-drop, length-set}
 use lib.Seq.{drop-cons, set-append_seam}
-use borrow.Author.Tests.{lt-ltb, le-ltb}
+use mathlib.Core.Bool.{Bool, true, false, cond}
+use lib.Dec.{ltb}
+use borrow.Author.Tests.{ltb-true, lt-ltb, le-ltb}
 use Rattle.output.specs.Pages.{Page, page_of, with_byte, with_text, Puts}
 
 -- ── one after the other ──
@@ -32,6 +34,26 @@ byte_put bytes used byte room = rw (lt-ltb used (length bytes) room, add-one)
 pub byte_left : (bytes : List ℕ) (used byte : ℕ) → length bytes ≤ used → Puts (byte ∷ []) (page_of bytes used) (page_of bytes used)
 unfolding with_text with_byte
 byte_left bytes used byte full = rw (le-ltb used (length bytes) full)
+
+-- never more used than there are
+byte_within : (page : Page) (byte : ℕ) → page.used ≤ length page.bytes → (with_byte page byte).used ≤ length (with_byte page byte).bytes
+unfolding with_byte
+byte_within page byte some = go (ltb page.used (length page.bytes)) refl
+  where
+    go : (room : Bool) → ltb page.used (length page.bytes) ≡ room
+        → (cond room (page_of (set page.bytes page.used byte) (suc page.used)) page).used ≤ length (cond room (page_of (set page.bytes page.used byte) (suc page.used)) page).bytes
+    go true e = let room = ltb-true page.used (length page.bytes) e in let size = length-set page.bytes page.used byte in omega arith
+    go false e = some
+
+texts_within : (page : Page) (text : List ℕ) → page.used ≤ length page.bytes → (with_text page text).used ≤ length (with_text page text).bytes
+unfolding with_text
+texts_within page [] some = some
+texts_within page (byte ∷ text) some = texts_within (with_byte page byte) text (byte_within page byte some)
+
+pub within : (text bytes bytes' : List ℕ) (used used' : ℕ) → used ≤ length bytes → Puts text (page_of bytes used) (page_of bytes' used') → used' ≤ length bytes'
+within text bytes bytes' used used' some put =
+    let least : (with_text (page_of bytes used) text).used ≤ length (with_text (page_of bytes used) text).bytes = texts_within (page_of bytes used) text some in
+    rw (← put) at least
 
 -- what remains of a text, after one byte more of it
 pub text_turn :

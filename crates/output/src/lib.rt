@@ -6,12 +6,15 @@ ghost use Rattle.output.specs.Pages as pages;
 ghost use Rattle.output.specs.Pages.{page_of, Puts};
 ghost use Rattle.output.specs.Numbers.{decimal, signed};
 
+mod lent;
+
+pub use lent::{put_byte, put_named, put_number, put_signed, put_text, put_then, put_word};
 use std::marker::Model;
 
 #[derive(Drop)]
 pub struct Page<const N: usize> {
-    bytes: [u8; N],
-    used: usize,
+    pub bytes: [u8; N],
+    pub used: usize,
 }
 
 impl<const N: usize> Model for Page<N> {
@@ -44,59 +47,44 @@ impl<const N: usize> Page<N> {
     pub fn put_byte(&mut self, byte: u8)
         ensures { Puts (byte ∷ []) self.old self.new }
     {
-        if self.used < N {
-            self.bytes[self.used] = byte;
-            self.used += 1;
-        }
+        self.used = put_byte(&mut self.bytes, self.used, byte);
     }
 
     pub fn put_text(&mut self, text: &[u8])
         ensures { Puts text.now self.old self.new }
     {
-        for &byte in text {
-            self.put_byte(byte);
-        }
+        self.used = put_text(&mut self.bytes, self.used, text);
     }
 
-    // Digit by digit: `write!` states what it writes only where it does not fail.
     pub fn put_number(&mut self, n: u64)
         ensures { Puts (decimal n) self.old self.new }
     {
-        if n >= 10 {
-            self.put_number(n / 10);
-        }
-        self.put_byte(48 + (n % 10) as u8);
+        self.used = put_number(&mut self.bytes, self.used, n);
     }
 
-    // A word is widened at each of its calls otherwise.
     pub fn put_word(&mut self, n: u32)
         ensures { Puts (decimal n) self.old self.new }
     {
-        self.put_number(n as u64);
+        self.used = put_word(&mut self.bytes, self.used, n);
     }
 
     pub fn put_signed(&mut self, n: i64)
         ensures { Puts (signed n) self.old self.new }
     {
-        if n < 0 {
-            self.put_byte(45);
-        }
-        self.put_number(n.unsigned_abs());
+        self.used = put_signed(&mut self.bytes, self.used, n);
     }
 
     // A number, and the byte after it.
     pub fn put_then(&mut self, n: u32, after: u8)
         ensures { Puts (decimal n ++ after ∷ []) self.old self.new }
     {
-        self.put_word(n);
-        self.put_byte(after);
+        self.used = put_then(&mut self.bytes, self.used, n, after);
     }
 
     // A text, and the number after it.
     pub fn put_named(&mut self, name: &[u8], number: u32)
         ensures { Puts (name.now ++ decimal number) self.old self.new }
     {
-        self.put_text(name);
-        self.put_word(number);
+        self.used = put_named(&mut self.bytes, self.used, name, number);
     }
 }

@@ -1,5 +1,5 @@
 // The sheet as text.
-ghost use Rattle.std.specs.Prelude.{◌≡◌, ◌*◌};
+ghost use Rattle.std.specs.Prelude.{◌≡◌, ◌*◌, length};
 ghost use Rattle.input.specs.Limits.{packets_a_step};
 
 use crate::asked::Numbers;
@@ -22,10 +22,17 @@ pub struct Sheet<'a> {
     pub shares: &'a [u32],
 }
 
+// A page with nothing on it, and room for any sheet.
+fn blank() -> Page<SHEET_BYTES>
+    ensures { length result.bytes ≡ 524288 }
+{
+    Page::blank()
+}
+
 impl<'a> Sheet<'a> {
     // Prints the sheet of each sending class, in row order.
     pub fn print(self, rt: &HostRuntime, senders: &RowMarks) -> Result<(), Stopped> {
-        let mut page: Page<SHEET_BYTES> = Page::blank();
+        let mut page = blank();
         self.put_heading(&mut page);
         for (row, sends) in senders.iter().enumerate() {
             if *sends {

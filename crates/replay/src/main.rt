@@ -2,6 +2,8 @@
 // the lags; to standard error it says what cannot be read or written, or what a refusal names and how to mend it.
 #![tactic(auto)]
 
+ghost use Rattle.std.specs.Prelude.{◌≡◌, length};
+
 use files::{
     NO_FILE, Stopped, Table, argument_count, begin_refusal, complain, end_with, first, input_twice,
     load, say,
@@ -88,9 +90,16 @@ fn print(
     report: &[u64],
     lags: &[i64],
 ) -> Result<(), Stopped> {
-    let mut page: Page<RUN_BYTES> = Page::blank();
+    let mut page = blank();
     lines::put_run(&mut page, answer, identifiers, order, report, lags);
     files::print(rt, &page)
+}
+
+// A page with nothing on it, and room for any run.
+fn blank() -> Page<RUN_BYTES>
+    ensures { length result.bytes ≡ 1480252 }
+{
+    Page::blank()
 }
 
 // A refusal as a sentence, to standard error.

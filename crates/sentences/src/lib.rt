@@ -4,6 +4,7 @@
 mod children;
 mod events;
 mod faults;
+pub mod lent;
 mod naming;
 mod refusals;
 mod templates;

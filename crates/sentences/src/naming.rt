@@ -3,6 +3,7 @@ ghost use Rattle.std.specs.Prelude.{◌≡◌};
 ghost use Rattle.output.specs.Pages.{Puts};
 ghost use Rattle.sentences.specs.Files as files;
 
+use crate::lent;
 use output::Page;
 
 // Whether a name stands for standard input.
@@ -14,31 +15,15 @@ pub fn is_input(name: &[u8]) -> bool
 }
 
 // A file by its name as it was given.
-#[tactic(auto, unfolding(crate::specs::Files::shown, output::specs::Quoted::bytes_of))]
 pub fn put_name<const N: usize>(page: &mut Page<N>, name: &[u8])
     ensures { Puts (files.shown name.now) page.old page.new }
 {
-    if is_input(name) {
-        page.put_text(b"standard input");
-    } else {
-        page.put_text(name);
-    }
+    page.used = lent::put_name(&mut page.bytes, page.used, name);
 }
 
 // The number of a refusal and the file that it is in; no name is no file.
 pub fn put_refused<const N: usize>(page: &mut Page<N>, number: u32, name: &[u8])
     ensures { Puts (files.refused number name.now) page.old page.new }
 {
-    page.put_named(b"refused ", number);
-    put_in(page, name);
-    page.put_text(b": ");
-}
-
-fn put_in<const N: usize>(page: &mut Page<N>, name: &[u8])
-    ensures { Puts (files.in_file name.now) page.old page.new }
-{
-    if !name.is_empty() {
-        page.put_text(b" in ");
-        put_name(page, name);
-    }
+    page.used = lent::put_refused(&mut page.bytes, page.used, number, name);
 }

@@ -1,18 +1,7 @@
--- `lines::put_answer` meets its contract: its parts one after the other.
+-- `lines::put_answer` keeps no more of the page used than it has.
 -- Assumes nothing.
-use mathlib.Core.Path.{ap, ◌∙◌}
-use Rattle.output.specs.Quoted.{bytes_of}
-use Rattle.output.specs.Pages.{with_text}
-use Rattle.forms.specs.Bytes.{answer_heading}
-use Rattle.lines.proofs.Parts.{answer_parts}
-use Rattle.output.proofs.Pages.{then}
+use Rattle.output.proofs.Pages.{within}
 use Rattle.lines.proofs.put_answer.Goals as goal
 
-pub returns : goal.returns
-unfolding answer_heading bytes_of
-returns g c =
-    rw (← c.numbers_of-answer.ensures)
-    (then _ _ _ c.put_text.ensures (then _ _ _ c.put_end.ensures (then _ _ _ c.put_then.ensures
-    (then _ _ _ c.put_then-2.ensures (then _ _ _ c.put_then-3.ensures (then _ _ _ c.put_word.ensures
-    c.put_end-2.ensures)))))
-    ∙ ap (with_text _) (answer_parts _))
+pub invariant_of-page : goal.invariant_of-page
+invariant_of-page g c = within _ _ _ _ _ c.page.invariant c.put_answer-page-inside.ensures

@@ -1,7 +1,7 @@
--- `lines::put_end` meets its contract: one byte after the other.
+-- `lines::put_end` keeps no more of the page used than it has.
 -- Assumes nothing.
-use Rattle.output.proofs.Pages.{then}
+use Rattle.output.proofs.Pages.{within}
 use Rattle.lines.proofs.put_end.Goals as goal
 
-pub returns : goal.returns
-returns g c = then _ _ _ c.put_byte.ensures c.put_byte-2.ensures
+pub invariant_of-page : goal.invariant_of-page
+invariant_of-page g c = within _ _ _ _ _ c.page.invariant c.put_end-page-inside.ensures

@@ -1,7 +1,7 @@
--- `lines::put_field` meets its contract: the number, the comma.
+-- `lines::put_field` keeps no more of the page used than it has.
 -- Assumes nothing.
-use Rattle.output.proofs.Pages.{then}
+use Rattle.output.proofs.Pages.{within}
 use Rattle.lines.proofs.put_field.Goals as goal
 
-pub returns : goal.returns
-returns g c = then _ _ _ c.put_number.ensures c.put_byte.ensures
+pub invariant_of-page : goal.invariant_of-page
+invariant_of-page g c = within _ _ _ _ _ c.page.invariant c.put_field-page-inside.ensures

@@ -1,11 +1,7 @@
--- `lines::put_live_heading` meets its contract: the names, and the end of their line.
+-- `lines::put_live_heading` keeps no more of the page used than it has.
 -- Assumes nothing.
-use borrow.Author.Rules.{rules}
-use Rattle.output.specs.Quoted.{bytes_of}
-use Rattle.output.proofs.Pages.{then}
-use Rattle.forms.specs.Bytes.{live_heading}
+use Rattle.output.proofs.Pages.{within}
 use Rattle.lines.proofs.put_live_heading.Goals as goal
 
-pub returns : goal.returns
-unfolding live_heading bytes_of
-returns g c = search (rules, then)
+pub invariant_of-page : goal.invariant_of-page
+invariant_of-page g c = within _ _ _ _ _ c.page.invariant c.put_live_heading-page-inside.ensures

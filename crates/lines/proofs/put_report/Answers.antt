@@ -1,12 +1,7 @@
--- `lines::put_report` meets its contract: the heading, its end, the rows.
+-- `lines::put_report` keeps no more of the page used than it has.
 -- Assumes nothing.
-use Rattle.output.specs.Quoted.{bytes_of}
-use Rattle.forms.specs.Texts.{report_text}
-use Rattle.forms.specs.Bytes.{report_heading}
-use Rattle.output.proofs.Pages.{then}
+use Rattle.output.proofs.Pages.{within}
 use Rattle.lines.proofs.put_report.Goals as goal
 
-pub returns : goal.returns
-unfolding report_text report_heading bytes_of
-returns g c =
-    then _ _ _ c.put_text.ensures (then _ _ _ c.put_end.ensures c.put_report_lines.ensures)
+pub invariant_of-page : goal.invariant_of-page
+invariant_of-page g c = within _ _ _ _ _ c.page.invariant c.put_report-page-inside.ensures

@@ -1,12 +1,7 @@
--- `lines::put_table` meets its contract: the heading, its end, the rows.
+-- `lines::put_table` keeps no more of the page used than it has.
 -- Assumes nothing.
-use Rattle.output.specs.Quoted.{bytes_of}
-use Rattle.forms.specs.Texts.{table_text}
-use Rattle.forms.specs.Bytes.{table_heading}
-use Rattle.output.proofs.Pages.{then}
+use Rattle.output.proofs.Pages.{within}
 use Rattle.lines.proofs.put_table.Goals as goal
 
-pub returns : goal.returns
-unfolding table_text table_heading bytes_of
-returns g c =
-    then _ _ _ c.put_text.ensures (then _ _ _ c.put_end.ensures c.put_rows.ensures)
+pub invariant_of-page : goal.invariant_of-page
+invariant_of-page g c = within _ _ _ _ _ c.page.invariant c.put_table-page-inside.ensures

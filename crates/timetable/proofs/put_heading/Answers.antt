@@ -1,10 +1,7 @@
--- `put_heading` meets its contract: the heading, its end.
+-- `put_heading` keeps no more of the page used than it has.
 -- Assumes nothing.
-use Rattle.output.specs.Quoted.{bytes_of}
-use Rattle.output.proofs.Pages.{then}
-use Rattle.pcap.specs.Printed.{packet_heading}
+use Rattle.output.proofs.Pages.{within}
 use Rattle.timetable.proofs.put_heading.Goals as goal
 
-pub returns : goal.returns
-unfolding packet_heading bytes_of
-returns g c = then _ _ _ c.put_text.ensures c.put_end.ensures
+pub invariant_of-page : goal.invariant_of-page
+invariant_of-page g c = within _ _ _ _ _ c.page.invariant c.put_heading-page-inside.ensures

@@ -1,11 +1,7 @@
--- `Page::put_byte` meets its contract: a byte that finds room is set, and one that finds none is left out.
+-- `Page::put_byte` keeps no more used than there are bytes.
 -- Assumes nothing.
-use native.Mathlib.Omega.{arith}
-use Rattle.output.proofs.Pages.{byte_put, byte_left}
+use Rattle.output.proofs.Pages.{within}
 use Rattle.output.proofs.Page.put_byte.Goals as goal
 
-pub returns-then-self : goal.returns-then-self
-returns-then-self g c = rw (← c.self.view_is) (byte_put c.self.inside.bytes c.self.inside.used c.args.byte (omega arith))
-
-pub returns-else-self : goal.returns-else-self
-returns-else-self g c = rw (← c.self.view_is) (byte_left c.self.inside.bytes c.self.inside.used c.args.byte (omega arith))
+pub invariant_of-self : goal.invariant_of-self
+invariant_of-self g c = within _ _ _ _ _ c.self.invariant c.put_byte-self-inside.ensures

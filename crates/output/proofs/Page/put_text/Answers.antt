@@ -1,18 +1,7 @@
--- `Page::put_text` meets its contract.
+-- `Page::put_text` keeps no more used than there are bytes.
 -- Assumes nothing.
-use mathlib.Core.List.{[]}
-use mathlib.Core.Path.{◌≡◌}
-use native.Mathlib.Omega.{arith}
-use lib.ListN.{drop, drop_of_length-le}
-use Rattle.output.specs.Pages.{with_text}
-use Rattle.output.proofs.Pages.{text_turn}
+use Rattle.output.proofs.Pages.{within}
 use Rattle.output.proofs.Page.put_text.Goals as goal
 
-pub loop-byte-preserved : goal.loop-byte-preserved
-loop-byte-preserved g c = text_turn c.args.text.now c.loop-byte.byte-index _ _ _ (omega arith) c.put_byte.ensures c.loop-byte.invariant
-
-pub returns : goal.returns
-unfolding with_text
-returns g c =
-    let none : drop c.loop-byte.byte-index c.args.text.now ≡ [] = drop_of_length-le c.args.text.now {i = c.loop-byte.byte-index} (omega arith) in
-    rw none at c.loop-byte.invariant
+pub invariant_of-self : goal.invariant_of-self
+invariant_of-self g c = within _ _ _ _ _ c.self.invariant c.put_text-self-inside.ensures

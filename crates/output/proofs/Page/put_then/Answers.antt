@@ -1,7 +1,7 @@
--- `Page::put_then` meets its contract: one after the other.
+-- `Page::put_then` keeps no more used than there are bytes.
 -- Assumes nothing.
-use Rattle.output.proofs.Pages.{then}
+use Rattle.output.proofs.Pages.{within}
 use Rattle.output.proofs.Page.put_then.Goals as goal
 
-pub returns : goal.returns
-returns g c = then _ _ _ c.put_word.ensures c.put_byte.ensures
+pub invariant_of-self : goal.invariant_of-self
+invariant_of-self g c = within _ _ _ _ _ c.self.invariant c.put_then-self-inside.ensures

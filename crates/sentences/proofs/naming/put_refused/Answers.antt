@@ -1,10 +1,7 @@
--- `put_refused` meets its contract: one text after another.
+-- `put_refused` keeps no more of the page used than it has.
 -- Assumes nothing.
-use Rattle.output.proofs.Pages.{then}
-use Rattle.output.specs.Quoted.{bytes_of}
-use Rattle.sentences.specs.Files.{refused}
+use Rattle.output.proofs.Pages.{within}
 use Rattle.sentences.proofs.naming.put_refused.Goals as goal
 
-pub returns : goal.returns
-unfolding bytes_of refused
-returns g c = then _ _ _ c.put_named.ensures (then _ _ _ c.put_in.ensures c.put_text.ensures)
+pub invariant_of-page : goal.invariant_of-page
+invariant_of-page g c = within _ _ _ _ _ c.page.invariant c.put_refused-page-inside.ensures

@@ -1,7 +1,0 @@
--- The invariant of the loop of `lines::put_report_lines`: the lines of the rows passed are put.
-use Rattle.output.specs.Pages.{Puts}
-use Rattle.forms.specs.Texts.{report_lines}
-use Rattle.lines.proofs.put_report_lines.Given as goal
-
-abbrev pub invariant-loop-r : goal.invariant-loop-r
-invariant-loop-r g l = Puts (report_lines l.identifiers l.report l.lags l.r) l.initial.page l.page
