@@ -8,7 +8,8 @@ use native.Mathlib.Omega.{arith}
 use lib.Dec.{eqb, leb}
 use lib.ListN.{length, get_or, set}
 use borrow.Author.Tests.{eq-eqb, ne_eqb, eqb-false}
-use Rattle.std.specs.Prelude.{Option, Some, None, Result, Ok}
+use Rattle.std.specs.Prelude.{Option, Some, None, Result, Ok, Err}
+use Rattle.std.specs.Result.{IsErrAnd}
 use Rattle.input.specs.declared.Event.{Event}
 use Rattle.input.specs.declared.Event.TheVariants.{Arrival, Finish}
 use Rattle.input.specs.declared.Refusal.{Refusal}
@@ -21,9 +22,9 @@ use Rattle.laws.proofs.Tree.Trees.{or_none, given_none, place_most}
 use Rattle.tables.specs.Judged.{Refuses, Judged}
 use Rattle.tables.specs.Stated.{Finds}
 use Rattle.tables.specs.Answers.{refusal_of}
-use Rattle.checks.specs.Counted.{counted_refused, Known, Places, Found}
+use Rattle.checks.specs.Counted.{counted_refused, Known, Places, Found, filled}
 use Rattle.tables.proofs.Firsts.{Plain, or_else_second, given_plain, or_else_plain, last_plain, below_plain}
-use Rattle.tables.proofs.Judging.{refuses, judged_as, at_place}
+use Rattle.tables.proofs.Judging.{refuses, judged_as, handed, at_place}
 
 -- ── an arrival ──
 
@@ -106,6 +107,13 @@ pub record Passed (tree : Tree) (events : Events) (i : ℕ) (rows : List ℕ) (a
   pub came : arrivals ≡ arrived tree events 0 i
   pub went : finishes ≡ finish_count events i
   pub none : (first_below (counted_refused tree events) i).number ≡ 0
+
+-- a refusal that a `?` hands on, whatever is filled in by then
+pub filled_stop :
+    (refusal : Refusal) (found by_then : List ℕ) (r : Result (Unit {0}) Refusal) (e : Refusal) → IsErrAnd r (λ x. x ≡ e) → Refuses refusal e
+    → Judged refusal found (filled by_then r)
+filled_stop refusal found by_then (Ok done) e none refuses = absurd none
+filled_stop refusal found by_then (Err x) e same refuses = handed refusal found (Err x) e same refuses
 
 pub passed_none : (tree : Tree) (events : Events) (rows : List ℕ) → rows ≡ no_rows → Passed tree events 0 rows 0 0
 unfolding rows_for arrived finish_count first_below nothing

@@ -1,14 +1,16 @@
 -- A whole input: the refusal by the parts that were looked at, and what is known where a part does not refuse.
 -- Assumes nothing.
-use Prim.Native.Nat.{◌≤◌}
+use Prim.Native.Nat.{ℕ, ◌≤◌}
 use mathlib.Core.Path.{◌≡◌, sym, ◌∙◌}
 use mathlib.Core.Bool.{not}
 use mathlib.Core.Logic.{◌≢◌}
+use mathlib.Core.List.{List}
 use mathlib.Mathlib.Data.Bool.Basic.{or-eq-false-eq-eq-false-and-eq-false as or-is-false}
 use lib.Dec.{eqb, ltb}
 use lib.ListN.{length}
 use borrow.Author.Tests.{eqb-true, ltb-false, not-false}
-use Rattle.std.specs.Prelude.{Result, Err}
+use Rattle.std.specs.Prelude.{Result, Ok, Err}
+use Rattle.std.specs.Result.{IsErrAnd}
 use Rattle.input.specs.declared.Refusal.{Refusal}
 use Rattle.input.specs.Limits.{most_events}
 use Rattle.input.specs.Classes.{Table, tree_of}
@@ -16,17 +18,26 @@ use Rattle.input.specs.Events.{Events, count}
 use Rattle.input.specs.Refusals.{Room, nothing, or_else, first_below, rows_refused, events_refused, table_refused}
 use Rattle.rules.specs.Refused.{refused}
 use Rattle.laws.proofs.Tree.Trees.{first_none, given_none}
+use Rattle.tables.specs.declared.Reading.{Reading}
 use Rattle.tables.specs.Sized.{Sized}
 use Rattle.tables.specs.Judged.{Refuses, Judged}
 use Rattle.tables.proofs.Firsts.{or_else_first, or_else_second}
-use Rattle.tables.proofs.Judging.{judged_as, at_first, at_second, at_last}
+use Rattle.tables.proofs.Judging.{judged_as, handed, at_first, at_second, at_last}
 use Rattle.tables.proofs.Answering.{sized}
-use Rattle.checks.specs.Counted.{counted_refused, lengths_refused}
+use Rattle.checks.specs.declared.Checked.{Checked}
+use Rattle.checks.specs.Counted.{counted_refused, lengths_refused, with_rows}
 use Rattle.checks.proofs.Counting.{rules_split}
 
 pub record Listed (events : Events) : Type 0 where
   pub even : length events.lengths ≡ count events
   pub few : count events ≤ most_events
+
+-- a refusal that a `?` hands on, whatever rows are filled in by then
+pub read_stop :
+    (refusal : Refusal) (found : Checked) (rows : List ℕ) (r : Result Reading Refusal) (e : Refusal) → IsErrAnd r (λ x. x ≡ e) → Refuses refusal e
+    → Judged refusal found (with_rows rows r)
+read_stop refusal found rows (Ok reading) e none refuses = absurd none
+read_stop refusal found rows (Err x) e same refuses = handed refusal found (Err x) e same refuses
 
 module _ (table : Table) (events : Events) (room : Room) where
   abbrev lengths : Refusal

@@ -1,5 +1,5 @@
 -- What the checks answer. A finish is refused by counting: where as many finishes as arrivals came before it.
-use Rattle.std.specs.Prelude.{ℕ, ◌<◌, ◌≡◌, Bool, true, false, List, [], ◌∷◌, leb, length, get_or, Option, Some, None, Result}
+use Rattle.std.specs.Prelude.{ℕ, ◌<◌, ◌≡◌, Bool, true, false, List, [], ◌∷◌, leb, length, get_or, Option, Some, None, Result, Ok, Err}
 use Rattle.input.specs.declared.Event.{Event}
 use Rattle.input.specs.declared.Refusal.{Refusal}
 use Rattle.input.specs.Classes.{Table, Tree, tree_of, row_of, sends}
@@ -10,6 +10,7 @@ use Rattle.input.specs.Lent.{room_with}
 use Rattle.rules.specs.Promise.{within, arrived, finish_count}
 use Rattle.rules.specs.Refused.{refused}
 use Rattle.laws.specs.Sound.{ApartOnAir}
+use Rattle.tables.specs.declared.Reading.{Reading}
 use Rattle.tables.specs.Judged.{Judged}
 use Rattle.tables.specs.Answers.{accepting}
 use Rattle.checks.specs.declared.ResultRoom.{ResultRoom}
@@ -70,6 +71,11 @@ counted_refused tree events i =
 abbrev pub MeetsAll : Tree → Events → Result (List ℕ) Refusal → Type 0
 MeetsAll tree events r = Judged (first_below (counted_refused tree events) (count events)) (rows_for tree events (count events)) r
 
+-- rows that were filled in, and what came of it
+abbrev pub filled : List ℕ → Result (Unit {0}) Refusal → Result (List ℕ) Refusal
+filled rows (Ok done) = Ok rows
+filled rows (Err refusal) = Err refusal
+
 -- ── a whole input ──
 
 -- the table as it is read and the row of each event
@@ -77,6 +83,11 @@ unfoldable pub checked : Table → Events → Checked
 checked table events =
     let tree = tree_of table in
     record { reading = accepting tree; event_rows = rows_for tree events (count events) }
+
+-- a table that was read, with rows that were filled in
+abbrev pub with_rows : List ℕ → Result Reading Refusal → Result Checked Refusal
+with_rows rows (Ok reading) = Ok (record { reading = reading; event_rows = rows })
+with_rows rows (Err refusal) = Err refusal
 
 abbrev pub Checks : Table → Events → Room → Result Checked Refusal → Type 0
 Checks table events room r = Judged (refused table events room) (checked table events) r

@@ -10,12 +10,13 @@ ghost use Rattle.input.specs.declared.Event.TheVariants.{Arrival, Finish};
 ghost use Rattle.input.specs.Limits.{most_rows, most_events};
 ghost use Rattle.input.specs.Classes.{Table, Tree};
 ghost use Rattle.input.specs.Events.{Events, count};
+ghost use Rattle.input.specs.EventRows.{no_rows};
 ghost use Rattle.input.specs.Refusals.{events_refused, room_refused, packet_refused};
 ghost use Rattle.input.specs.Lent.{table_of, events_of};
 ghost use Rattle.rules.specs.Promise.{one_arrival, one_finish};
 ghost use Rattle.tables.specs.Judged.{Judged};
 ghost use Rattle.checks.specs.Filed.{AllFiled};
-ghost use Rattle.checks.specs.Counted.{room_in, SlicesOf, ChecksLengths, Known, Found, Meets, MeetsAll, Checks};
+ghost use Rattle.checks.specs.Counted.{room_in, SlicesOf, ChecksLengths, Known, Found, Meets, MeetsAll, filled, with_rows, Checks};
 
 use input::{Event, EventRows, OnAirRows, Refusal, RowMarks};
 pub use rows::filed;
@@ -224,20 +225,22 @@ pub fn check_event(
     }
 }
 
-// Event by event, 11 to 14; otherwise the row that each is for. The line is idle where as many finishes as arrivals came before.
+// Event by event, 11 to 14; otherwise the row that each is for. The line is idle where as many finishes as arrivals came before. The rows
+// are filled in where they stand.
 fn check_list(
     identifiers: &[u32],
     senders: &RowMarks,
     classes: &[u32],
     lengths: &[u32],
-) -> Result<EventRows, Refusal>
-    requires { (0 < lists.length identifiers.now) × (lists.length identifiers.now ≤ most_rows) × (lists.length classes.now ≤ most_events)
+    rows: &mut EventRows,
+) -> Result<(), Refusal>
+    requires sizes { (0 < lists.length identifiers.now) × (lists.length identifiers.now ≤ most_rows) × (lists.length classes.now ≤ most_events)
         × (lists.length lengths.now ≡ lists.length classes.now) }
+    requires none_filled { rows.old ≡ no_rows }
     ensures { (tree : Tree) → Known tree identifiers.now senders.now
-        → MeetsAll tree (events_of classes.now lengths.now) result }
+        → MeetsAll tree (events_of classes.now lengths.now) (filled rows.new result) }
 {
     let on_air_rows = filed(identifiers);
-    let mut rows = [0u8; input::MOST_EVENTS];
     let mut arrivals = 0;
     let mut finishes = 0;
     for i in 0..classes.len() {
@@ -256,10 +259,38 @@ fn check_list(
         arrivals += one_arrival(event);
         finishes += one_finish(event);
     }
-    Ok(rows)
+    Ok(())
 }
 
-// The check of a whole input.
+// The check of a whole input, where the row of each event is filled in where it stands: handed over in a result they would be copied, on a
+// thread's stack. Otherwise the table as it was read. Of a refused input any rows may be filled in.
+pub fn check_into(
+    identifiers: &[u32],
+    parent_identifiers: &[u32],
+    shares: &[u32],
+    classes: &[u32],
+    lengths: &[u32],
+    room: ResultRoom,
+    event_rows: &mut EventRows,
+) -> Result<Reading, Refusal>
+    requires { event_rows.old ≡ no_rows }
+    ensures { Checks (table_of identifiers.now parent_identifiers.now shares.now)
+        (events_of classes.now lengths.now) (room_in room) (with_rows event_rows.new result) }
+{
+    check_lengths(
+        identifiers,
+        parent_identifiers,
+        shares,
+        classes,
+        lengths,
+        room,
+    )?;
+    let reading = tables::read_sized(identifiers, parent_identifiers, shares)?;
+    check_list(identifiers, &reading.senders, classes, lengths, event_rows)?;
+    Ok(reading)
+}
+
+// The same, as a result.
 pub fn check(
     identifiers: &[u32],
     parent_identifiers: &[u32],
@@ -271,16 +302,16 @@ pub fn check(
     ensures { Checks (table_of identifiers.now parent_identifiers.now shares.now)
         (events_of classes.now lengths.now) (room_in room) result }
 {
-    check_lengths(
+    let mut event_rows = [0; input::MOST_EVENTS];
+    let reading = check_into(
         identifiers,
         parent_identifiers,
         shares,
         classes,
         lengths,
         room,
+        &mut event_rows,
     )?;
-    let reading = tables::read_sized(identifiers, parent_identifiers, shares)?;
-    let event_rows = check_list(identifiers, &reading.senders, classes, lengths)?;
     Ok(Checked {
         reading,
         event_rows,

@@ -2,14 +2,16 @@
 ghost use Rattle.std.specs.Prelude.{ℕ, List, ◌<◌, ◌≤◌};
 ghost use Rattle.input.specs.Limits.{most_rows};
 ghost use Rattle.input.specs.Classes.{Tree};
+ghost use Rattle.input.specs.Lent.{tree_with};
 ghost use Rattle.rules.specs.Box.{Rows, fresh};
 ghost use Rattle.laws.specs.Sound.{Sound, Kid};
-ghost use Rattle.arrays.specs.Arrays.{rows_in, tree_in, Inside};
+ghost use Rattle.arrays.specs.Arrays.{rows_of, rows_in, Inside};
 ghost use Rattle.choosing.specs.Filed.{AllListed, InHeaps, Keeps, Chooses, Found};
 ghost use Rattle.choosing.specs.Keeping.{list_kept, heaps_kept};
 
-use arrays::{RowArrays, TreeArrays};
+use arrays::RowArrays;
 use heaps::Heaps;
+use input::RowWords;
 use looking::Looking;
 use rules::Choice;
 
@@ -18,19 +20,20 @@ pub trait Finding: Drop {
     ghost filed: { Self → Tree → (ℕ → ℕ) → Rows → ℕ → Type 0 };
 
     // Before the first event.
-    fn open(count: usize, tree: &TreeArrays) -> Self
+    fn open(count: usize, parents: &RowWords) -> Self
         requires count_nonzero { 0 < count }
         requires count_le_most_rows { count ≤ most_rows }
-        requires inside { Inside tree.now.parents }
-        ensures { (ids : List ℕ) (class_of : ℕ → ℕ) → filed result (tree_in count ids tree.now) class_of fresh.rows 0 };
+        requires inside { Inside parents.now }
+        ensures { (ids depths shares : List ℕ) (class_of : ℕ → ℕ)
+            → filed result (tree_with count ids parents.now depths shares) class_of fresh.rows 0 };
 
     // Row r is filed with those that wait at its parent p.
     fn file(&mut self, rows: &RowArrays, p: usize, r: usize)
         requires p_lt_most_rows { p < most_rows }
         requires r_lt_most_rows { r < most_rows }
-        ensures { (tree : Tree) (class_of : ℕ → ℕ) → Sound tree → Kid tree p r
-            → filed self.old tree class_of (rows_in rows.now) r
-            → filed self.new tree class_of (rows_in rows.now) 0 };
+        ensures { (tree : Tree) (class_of : ℕ → ℕ) (lengths classes : List ℕ) → Sound tree → Kid tree p r
+            → filed self.old tree class_of (rows_of rows.now.starts rows.now.finishes rows.now.virtuals rows.now.heads lengths classes) r
+            → filed self.new tree class_of (rows_of rows.now.starts rows.now.finishes rows.now.virtuals rows.now.heads lengths classes) 0 };
 
     // What the choice of row p comes to, which has no head.
     fn find(&mut self, rows: &RowArrays, p: usize) -> Choice
@@ -48,8 +51,8 @@ impl Finding for Looking {
 
     ghost keeps = { list_kept };
 
-    fn open(count: usize, tree: &TreeArrays) -> Looking {
-        Looking::list_children(count, tree)
+    fn open(count: usize, parents: &RowWords) -> Looking {
+        Looking::list_children(count, parents)
     }
 
     // The list of all children needs no change.
@@ -65,7 +68,7 @@ impl Finding for Heaps {
 
     ghost keeps = { heaps_kept };
 
-    fn open(count: usize, tree: &TreeArrays) -> Heaps {
+    fn open(count: usize, parents: &RowWords) -> Heaps {
         Heaps::empty()
     }
 

@@ -8,8 +8,9 @@
 
 ghost use Rattle.std.specs.Prelude.{◌≡◌, List, ℕ, ◌+◌, ◌<◌, ◌≤◌, ◌^◌};
 ghost use Rattle.input.specs.Limits.{most_rows, most_bytes};
+ghost use Rattle.input.specs.Lent.{tree_with};
 ghost use Rattle.rules.specs.Steps as steps;
-ghost use Rattle.arrays.specs.Arrays.{rows_in, tree_in, Inside, next_start_of};
+ghost use Rattle.arrays.specs.Arrays.{rows_in, Inside, next_start_of};
 ghost use Rattle.choosing.specs.Sizes.{Leeway, most_charge, most_choice};
 ghost use Rattle.choosing.specs.Filed.{Chooses, Chosen};
 
@@ -50,8 +51,9 @@ pub fn new_head(
     requires inside { Inside tree.now.parents }
     requires length_le_most_bytes { length ≤ most_bytes }
     requires leeway { Leeway most_charge (rows_in rows.old) }
-    ensures { (n : ℕ) (ids : List ℕ)
-        → rows_in rows.new ≡ steps.new_head (tree_in n ids tree.now) why r packet length class (rows_in rows.old) }
+    ensures { (n : ℕ) (ids depths : List ℕ)
+        → rows_in rows.new
+        ≡ steps.new_head (tree_with n ids tree.now.parents depths tree.now.shares) why r packet length class (rows_in rows.old) }
 {
     let start = next_start(tree, rows, why, r);
     rows.starts[r] = start;
@@ -67,9 +69,9 @@ fn takes(tree: &TreeArrays, rows: &mut RowArrays, why: Why, p: usize, k: usize, 
     requires most_choice_bound { v + most_choice < 2 ^ 64 }
     requires inside { Inside tree.now.parents }
     requires leeway { Leeway most_choice (rows_in rows.old) }
-    ensures { (n : ℕ) (ids : List ℕ)
-        → v ≡ steps.raised (tree_in n ids tree.now) (rows_in rows.old) p
-        → rows_in rows.new ≡ steps.takes (tree_in n ids tree.now) why p k (rows_in rows.old) }
+    ensures { (n : ℕ) (ids depths : List ℕ)
+        → v ≡ steps.raised (tree_with n ids tree.now.parents depths tree.now.shares) (rows_in rows.old) p
+        → rows_in rows.new ≡ steps.takes (tree_with n ids tree.now.parents depths tree.now.shares) why p k (rows_in rows.old) }
 {
     let packet = rows.heads[k];
     let length = rows.head_lengths[k];
@@ -90,13 +92,13 @@ pub fn chooses<F: Finding>(
     why: Why,
     p: usize,
 )
-    requires chooses { (n : ℕ) × (ids : List ℕ) × (class_of : ℕ → ℕ)
-        × Chooses (F.filed finding.old) (tree_in n ids tree.now) class_of (rows_in rows.old) p }
+    requires chooses { (n : ℕ) × (ids : List ℕ) × (depths : List ℕ) × (class_of : ℕ → ℕ)
+        × Chooses (F.filed finding.old) (tree_with n ids tree.now.parents depths tree.now.shares) class_of (rows_in rows.old) p }
     requires inside { Inside tree.now.parents }
     requires leeway { Leeway most_choice (rows_in rows.old) }
-    ensures { (n : ℕ) (ids : List ℕ) (class_of : ℕ → ℕ)
-        → Chooses (F.filed finding.old) (tree_in n ids tree.now) class_of (rows_in rows.old) p
-        → Chosen (F.filed finding.new) (tree_in n ids tree.now) class_of why p (rows_in rows.old) (rows_in rows.new) }
+    ensures { (n : ℕ) (ids depths : List ℕ) (class_of : ℕ → ℕ)
+        → Chooses (F.filed finding.old) (tree_with n ids tree.now.parents depths tree.now.shares) class_of (rows_in rows.old) p
+        → Chosen (F.filed finding.new) (tree_with n ids tree.now.parents depths tree.now.shares) class_of why p (rows_in rows.old) (rows_in rows.new) }
 {
     let choice = finding.find(rows, p);
     let child = choice.child;

@@ -15,7 +15,7 @@ ghost use Rattle.engine.specs.Run.{lent_of, left_of, answer_of};
 use arrays::{CountArrays, RowArrays, TreeArrays};
 use checks::ResultRoom;
 use choosing::Finding;
-use input::{EventRows, MOST_ROWS, Refusal, RowMarks};
+use input::{EventRows, MOST_EVENTS, MOST_ROWS, Refusal, RowMarks};
 
 // An input that is not refused: its events in turn, and then the results. So many packets have gone on the line. Slices
 // stand one by one, as C lends them.
@@ -46,7 +46,7 @@ fn serve<F: Finding>(
     let mut rows = RowArrays::zeros();
     let mut counts = CountArrays::zeros();
     let mut lasts = [0; MOST_ROWS];
-    let mut finding = F::open(identifiers.len(), tree);
+    let mut finding = F::open(identifiers.len(), &tree.parents);
     queues::clear(working, classes.len());
     let mut sent = 0;
     for i in 0..classes.len() {
@@ -94,21 +94,23 @@ pub fn run<F: Finding>(
         lags: lags.len(),
         working: working.len(),
     };
-    let check = checks::check(
+    let mut event_rows = [0; MOST_EVENTS];
+    let reading = checks::check_into(
         identifiers,
         parent_identifiers,
         shares,
         classes,
         lengths,
         room,
+        &mut event_rows,
     )?;
     let sent = serve::<F>(
         identifiers,
         classes,
         lengths,
-        &check.reading.tree,
-        &check.reading.senders,
-        &check.event_rows,
+        &reading.tree,
+        &reading.senders,
+        &event_rows,
         order,
         report,
         lags,

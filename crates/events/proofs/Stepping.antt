@@ -144,7 +144,7 @@ module _
         go true = rw sound.root_depth
         go false = refl
 
-    front_climbs : Keeps Filed → Climbs Filed tree (class_for tree events) front from (depth tree from)
+    pub front_climbs : Keeps Filed → Climbs Filed tree (class_for tree events) front from (depth tree from)
     unfolding front_rows front_row
     front_climbs kept_filed = go (has_head_of a.heads row) refl
       where
@@ -163,7 +163,7 @@ module _
                   (own_packet tree sound (class_for tree events) row (suc i) sender (sym (row_arrives is))) coming.now.filed;
             }
 
-    front_leeway : Leeway most_climb front
+    pub front_leeway : Leeway most_climb front
     unfolding front_rows
     front_leeway = go (has_head_of a.heads row)
       where
@@ -343,7 +343,7 @@ module _
           kept_filed.headed tree sound (class_for tree events) Finished (line_class box) (suc packet.place) packet.length (line_class box) gone line_sends none_left
           (own_packet tree sound (class_for tree events) (line_class box) (suc packet.place) line_sends linked.1) (gone_filed kept_filed)
 
-      onward_climbs : Keeps Filed → Climbs Filed tree (class_for tree events) onward (line_class box) (depth tree (line_class box))
+      pub onward_climbs : Keeps Filed → Climbs Filed tree (class_for tree events) onward (line_class box) (depth tree (line_class box))
       unfolding Chain
       onward_climbs kept_filed =
           record {

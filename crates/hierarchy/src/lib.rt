@@ -8,6 +8,7 @@
 
 ghost use Rattle.std.specs.Prelude.{◌≡◌, List, ℕ, ◌+◌, ◌<◌, ◌≤◌, ◌^◌};
 ghost use Rattle.input.specs.Limits.{most_rows, most_bytes};
+ghost use Rattle.input.specs.Lent.{tree_with};
 ghost use Rattle.rules.specs.Steps as steps;
 ghost use Rattle.arrays.specs.Arrays.{rows_in, tree_in, Inside};
 ghost use Rattle.choosing.specs.Sizes.{Leeway, most_charge};
@@ -29,14 +30,14 @@ pub fn up<F: Finding>(
     row: usize,
     depth: u32,
 )
-    requires climbs { (n : ℕ) × (ids : List ℕ) × (class_of : ℕ → ℕ)
-        × Climbs (F.filed finding.old) (tree_in n ids tree.now) class_of (rows_in rows.old) row depth }
+    requires climbs { (n : ℕ) × (ids : List ℕ) × (depths : List ℕ) × (class_of : ℕ → ℕ)
+        × Climbs (F.filed finding.old) (tree_with n ids tree.now.parents depths tree.now.shares) class_of (rows_in rows.old) row depth }
     requires inside { Inside tree.now.parents }
     requires leeway { Leeway most_climb (rows_in rows.old) }
-    ensures { (n : ℕ) (ids : List ℕ) (class_of : ℕ → ℕ)
-        → Climbs (F.filed finding.old) (tree_in n ids tree.now) class_of (rows_in rows.old) row depth
-        → Settles (F.filed finding.new) (tree_in n ids tree.now) class_of
-        (steps.up depth (tree_in n ids tree.now) why row (rows_in rows.old)) (rows_in rows.new) }
+    ensures { (n : ℕ) (ids depths : List ℕ) (class_of : ℕ → ℕ)
+        → Climbs (F.filed finding.old) (tree_with n ids tree.now.parents depths tree.now.shares) class_of (rows_in rows.old) row depth
+        → Settles (F.filed finding.new) (tree_with n ids tree.now.parents depths tree.now.shares) class_of
+        (steps.up depth (tree_with n ids tree.now.parents depths tree.now.shares) why row (rows_in rows.old)) (rows_in rows.new) }
 {
     let mut r = row;
     for _level in 0..depth {

@@ -41,7 +41,7 @@ pub fn arrive(
         → Arrays box (rows_in rows.old) counts.old
         → Done box.order (arrival (tree_in n ids tree.now) place k size box) result (rows_in rows.new) counts.new }
 {
-    let mut finding = Looking::list_children(n, tree);
+    let mut finding = Looking::list_children(n, &tree.parents);
     let idle = rows.heads[0] == 0;
     let from = steps::arrive(tree, rows, counts, place, k, size);
     let depth = tree.depths[from];
@@ -67,7 +67,7 @@ pub fn finish(
         → Arrays box (rows_in rows.old) counts.old
         → Done box.order (departure (tree_in n ids tree.now) box) result (rows_in rows.new) counts.new }
 {
-    let mut finding = Looking::list_children(n, tree);
+    let mut finding = Looking::list_children(n, &tree.parents);
     let class = steps::depart(tree, rows, counts, next, size);
     let depth = tree.depths[class];
     hierarchy::up(tree, rows, &mut finding, Why::Finished, class, depth);

@@ -7,14 +7,13 @@ use lib.ListN.{length}
 use Rattle.input.specs.Events.{Events, event}
 use Rattle.input.specs.EventRows.{no_rows, rows_for}
 use Rattle.input.specs.Lent.{events_of}
-use Rattle.tables.proofs.Judging.{handed}
-use Rattle.checks.proofs.Meeting.{passed_none, passed_stop, passed_more}
+use Rattle.checks.proofs.Meeting.{filled_stop, passed_none, passed_stop, passed_more}
 use Rattle.checks.proofs.check_list.Goals as goal
 
 pub loop-i-init : goal.loop-i-init
 unfolding no_rows
 loop-i-init c =
-    (omega arith, omega arith, λ tree known. passed_none tree (events_of c.args.classes.now c.args.lengths.now) no_rows refl)
+    (omega arith, omega arith, λ tree known. passed_none tree (events_of c.args.classes.now c.args.lengths.now) _ c.requires.none_filled)
 
 pub returns-in_err-row : goal.returns-in_err-row
 unfolding event
@@ -22,7 +21,7 @@ returns-in_err-row c tree known =
     let events : Events = events_of c.args.classes.now c.args.lengths.now in
     let at = c.loop-i in
     let met = let h = rw c.decode-event.ensures at c.in_err-row.ensures tree known in h in
-    handed _ (rows_for tree events (length c.args.classes.now)) c.from_residual.result _ c.from_residual.ensures.1
+    filled_stop _ (rows_for tree events (length c.args.classes.now)) at.rows c.from_residual.result _ c.from_residual.ensures.1
     (passed_stop tree events at.i at.rows at.arrivals at.finishes (at.invariant.2 tree known) (length c.args.classes.now) (omega arith) _ met)
 
 pub overflow_add-arrivals : goal.overflow_add-arrivals

@@ -6,7 +6,7 @@ use Rattle.events.proofs.step.Goals as goal
 pub up-requires-clause-climbs : goal.up-requires-clause-climbs
 up-requires-clause-climbs g c =
     let (n, ids, classes, coming) = c.requires in
-    (n, ids, _, (c.meet-front.ensures n ids classes c.args.sent c.args.finding.now c.args.order.now coming).climbs)
+    (n, ids, _, _, (c.meet-front.ensures n ids classes c.args.sent c.args.finding.now c.args.order.now coming).climbs)
 
 pub up-requires-clause-leeway : goal.up-requires-clause-leeway
 up-requires-clause-leeway g c =
@@ -19,4 +19,4 @@ send-requires g c = let coming = c.requires.3 in record { order_room = room comi
 pub returns : goal.returns
 returns g c n ids classes given =
     let fronted = c.meet-front.ensures n ids classes c.args.sent c.args.finding.now c.args.order.now given in
-    fronted.over _ _ _ _ (c.up.ensures n ids _ fronted.climbs) c.send.ensures.order_after c.send.ensures.value
+    fronted.over _ _ _ _ (c.up.ensures n ids _ _ fronted.climbs) c.send.ensures.order_after c.send.ensures.value

@@ -18,7 +18,7 @@ up-requires c =
     let from = c.arrive-from.ensures.front in
     let front = c.arrive-from.ensures.rows_after c.args.n c.requires.0 in
     record {
-      climbs = (c.args.n, c.requires.0, (λ (r : ℕ). r), front_climbs able arrays _ _ _ _ from c.list_children-finding.ensures);
+      climbs = (c.args.n, c.requires.0, c.args.tree.now.depths, (λ (r : ℕ). r), front_climbs able arrays _ _ _ _ from c.list_children-finding.ensures);
       inside = able.able.ready.inside;
       leeway = front_leeway able arrays _ front;
     }
@@ -28,5 +28,5 @@ returns-clause-arrived c ids box given lent =
     let from = c.arrive-from.ensures.front in
     let front = c.arrive-from.ensures.rows_after c.args.n ids in
     arrived given lent _ _ _ _ _ _ _ from front
-    (c.up.ensures c.args.n ids (λ (r : ℕ). r) (front_climbs given lent _ _ _ _ from c.list_children-finding.ensures))
+    (c.up.ensures c.args.n ids c.args.tree.now.depths (λ (r : ℕ). r) (front_climbs given lent _ _ _ _ from c.list_children-finding.ensures))
     (c.arrive-from.ensures.counts_after c.args.n ids box lent.counts_are) c.on_line.ensures

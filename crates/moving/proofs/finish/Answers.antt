@@ -14,6 +14,7 @@ up-requires c =
       climbs = (
         c.args.n,
         c.requires.0,
+        c.args.tree.now.depths,
         (λ (r : ℕ). r),
         onward_climbs able arrays _ _ _ _ c.depart-class.ensures.class_sent c.list_children-finding.ensures,
       );
@@ -27,5 +28,5 @@ returns-clause-finished c ids place box given lent =
     let class = c.depart-class.ensures.class_sent in
     let climbs = onward_climbs given lent _ _ _ _ class c.list_children-finding.ensures in
     finished given lent _ _ _ _ _ _ _ class (c.depart-class.ensures.rows_after n ids (left box) given.next_is)
-    (c.up.ensures n ids (λ (r : ℕ). r) climbs)
+    (c.up.ensures n ids c.args.tree.now.depths (λ (r : ℕ). r) climbs)
     (c.depart-class.ensures.counts_after n ids box lent.rows_are lent.counts_are) c.on_line.ensures

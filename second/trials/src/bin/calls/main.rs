@@ -24,7 +24,7 @@ const DEFAULT_LISTS: usize = 18_400;
 
 /// Bytes of a thread's stack, where the proved engines keep all their words: callers are told that
 /// so many are enough.
-const STACK: usize = 2 << 20;
+const STACK: usize = 1_500_000;
 
 /// The first is what the others are held to.
 const ENGINES: [Named; 4] = [

@@ -6,4 +6,4 @@ use Rattle.choosing.proofs.finding.HeapsFinding.open.Goals as goal
 
 pub returns : goal.returns
 unfolding no_heaps
-returns c ids class_of = rw c.empty.ensures (none_waits _ class_of)
+returns c ids depths shares class_of = rw c.empty.ensures (none_waits _ class_of)
