@@ -49,17 +49,17 @@ module _ (tree : Tree) where
       (eqb (depth tree r) (suc (depth tree (parent tree r))) && (leb (depth tree r) most_depth && allowed (share tree r))) ok)
 
   -- every row in use has a parent in use
-  inside_each : root_sound tree ≡ true → classes ≡ true → (r : ℕ) → r < tree.rows → parent tree r < tree.rows
+  pub parents_inside : root_sound tree ≡ true → classes ≡ true → (r : ℕ) → r < tree.rows → parent tree r < tree.rows
   unfolding root_sound
-  inside_each root rows zero inside =
+  parents_inside root rows zero inside =
       let top = eqb-true (parent tree 0) 0 (both_left (eqb (parent tree 0) 0) (eqb (depth tree 0) 0 && eqb (share tree 0) 0) root) in
       omega arith
-  inside_each root rows (suc r) inside =
+  parents_inside root rows (suc r) inside =
       let passed = all_true tree.rows (λ q. eqb q 0 || class_sound tree q) rows (suc r) inside in
       class_inside (suc r) (rw (ne_eqb (suc r) 0 (λ e. absurd (omega arith))) at passed)
 
-  pub parents_inside : rows ≡ true → (r : ℕ) → r < tree.rows → parent tree r < tree.rows
-  parents_inside pass = let (root, names, each) = rows_parts pass in inside_each root each
+  pub rows_inside : rows ≡ true → (r : ℕ) → r < tree.rows → parent tree r < tree.rows
+  rows_inside pass = let (root, names, each) = rows_parts pass in parents_inside root each
 
   -- of a sound tree the parents are rows that there can be
   pub sound_inside : tree_sound tree ≡ true → tree.rows ≤ most_rows → Inside tree.rows tree.parents
@@ -69,5 +69,5 @@ module _ (tree : Tree) where
       let names = all tree.rows (named tree) in
       let root = both_left (root_sound tree) (names && (classes && sums)) sound in
       let later = both_right names (classes && sums) (both_right (root_sound tree) (names && (classes && sums)) sound) in
-      let own = inside_each root (both_left classes sums later) r inside in
+      let own = parents_inside root (both_left classes sums later) r inside in
       omega arith

@@ -98,7 +98,7 @@ module _ (words : List ℕ) (n : ℕ) (used : InUse words n) where
   tree_unfit large = refuted (sound (live_in words)) (λ pass. false≢true (sym large ∙ tree_fits pass))
 
   -- parents that fit are rows that there can be, those of rows out of use too
-  inside_so : (parents : List ℕ) → parents ≡ rows_at parents_at n words → at_most words n parents_at 255 ≡ true → Inside parents
+  pub inside_so : (parents : List ℕ) → parents ≡ rows_at parents_at n words → at_most words n parents_at 255 ≡ true → Inside parents
   inside_so parents same small r = go (dec_le n r)
     where
       go : Dec (n ≤ r) → get_or parents r 0 < most_rows

@@ -9,13 +9,13 @@ use Rattle.input.specs.Limits.{whole}
 use Rattle.arrays.specs.Arrays.{tree_in}
 use Rattle.live_rules.specs.Soundness.{children_sum}
 use Rattle.live_rules.proofs.Alls.{all_same}
-use Rattle.soundness.proofs.Parts.{rows_fail, sums_decide, parents_inside}
+use Rattle.soundness.proofs.Parts.{rows_fail, sums_decide, rows_inside}
 use Rattle.soundness.proofs.tree.tree_sound.Goals as goal
 
 pub children_sums-requires-clause-inside : goal.children_sums-requires-clause-inside
 children_sums-requires-clause-inside c r below =
     let a = c.args in
-    let inside = parents_inside (tree_in a.n (take a.n a.identifiers.now) a.tree.now) (sym c.rows_sound.ensures ∙ c.if-rows_sound.true) r below in
+    let inside = rows_inside (tree_in a.n (take a.n a.identifiers.now) a.tree.now) (sym c.rows_sound.ensures ∙ c.if-rows_sound.true) r below in
     omega arith
 
 pub returns-then-rows_sound : goal.returns-then-rows_sound
