@@ -26,5 +26,5 @@ pub record LoadsTable (lent left : Table) (r : Result ℕ Stopped) : Type 0 wher
   pub outcome : r ≡ cond failed none (loaded written read)
 
 -- the columns of a program before it reads, with one row more than a table may have
-unfoldable pub no_rows : Table
-no_rows = table_of (replicate 257 0) (replicate 257 0) (replicate 257 0)
+unfoldable pub no_columns : Table
+no_columns = table_of (replicate 257 0) (replicate 257 0) (replicate 257 0)

@@ -1,7 +1,7 @@
 // Reading a class table's file into its rows.
 ghost use Rattle.input.specs.Lent.{table_of};
 ghost use Rattle.std.specs.Prelude.{◌≡◌, IfOk, Ok, take};
-ghost use Rattle.files.specs.Tables.{LoadsTable, no_rows};
+ghost use Rattle.files.specs.Tables.{LoadsTable, no_columns};
 
 use crate::Stopped;
 use crate::ending::begin_refusal;
@@ -25,7 +25,7 @@ pub struct Table {
 impl Table {
     // Reads the table that an argument names, as `load_table` does.
     pub fn load(rt: &(impl Env + Files + Input + Print), argument: usize) -> Result<Table, Stopped>
-        ensures { IfOk result (λ t. LoadsTable no_rows (table_of t.identifiers t.parents t.shares) (Ok t.rows)) }
+        ensures { IfOk result (λ t. LoadsTable no_columns (table_of t.identifiers t.parents t.shares) (Ok t.rows)) }
     {
         let mut table = Table {
             rows: 0,

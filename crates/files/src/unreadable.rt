@@ -1,13 +1,13 @@
 // What is said of a file that cannot be read.
 ghost use Rattle.std.specs.Prelude.{◌≡◌};
-ghost use Rattle.output.specs.Pages.{Puts};
+ghost use Rattle.output.specs.Pages.{page_of, Puts};
 ghost use Rattle.files.specs.Sentences as sentences;
 ghost use Rattle.files.specs.declared.Stopped.TheVariants.{Failed};
 
 use crate::errors::number;
 use crate::handing::say;
 use crate::{Stopped, Unread};
-use output::Page;
+use output::{Page, put_named, put_text};
 use sentences::put_name;
 use std::io::{Error, ErrorKind};
 use text::Fault;
@@ -66,20 +66,30 @@ fn put_cannot_open<const N: usize>(page: &mut Page<N>, name: &[u8], why: Unread)
     page.put_byte(b'\n');
 }
 
+// What it means, put on lent bytes of which the first so many are used.
+#[tactic(auto, unfolding(crate::specs::Sentences::why, output::specs::Quoted::bytes_of))]
+pub fn put_why(page: &mut [u8], used: usize, why: Unread) -> usize
+    ensures { Puts (sentences.why why) (page_of page.old used) (page_of page.new result) }
+{
+    match why {
+        Unread::Missing => put_text(page, used, b": there is no such file"),
+        Unread::Folder => put_text(page, used, b": it is a folder"),
+        Unread::Forbidden => put_text(page, used, b": this user may not read it"),
+        Unread::LongName => put_text(page, used, b": its name is too long"),
+        Unread::Other(error) => put_named(
+            page,
+            used,
+            b": the system refuses it with error ",
+            error,
+        ),
+    }
+}
+
 impl Unread {
-    #[tactic(auto, unfolding(crate::specs::Sentences::why, output::specs::Quoted::bytes_of))]
     pub fn put<const N: usize>(self, page: &mut Page<N>)
         ensures { Puts (sentences.why self) page.old page.new }
     {
-        match self {
-            Unread::Missing => page.put_text(b": there is no such file"),
-            Unread::Folder => page.put_text(b": it is a folder"),
-            Unread::Forbidden => page.put_text(b": this user may not read it"),
-            Unread::LongName => page.put_text(b": its name is too long"),
-            Unread::Other(error) => {
-                page.put_named(b": the system refuses it with error ", error);
-            }
-        }
+        page.used = put_why(&mut page.bytes, page.used, self);
     }
 }
 

@@ -1,5 +1,5 @@
 // Text put on lent bytes, of which the first so many are used. What finds no room is left out.
-ghost use Rattle.std.specs.Prelude.{◌≡◌, [], ◌∷◌, ◌++◌};
+ghost use Rattle.std.specs.Prelude.{[], ◌∷◌, ◌++◌};
 ghost use Rattle.output.specs.Pages.{page_of, Puts};
 ghost use Rattle.output.specs.Numbers.{decimal, signed};
 

@@ -1,6 +1,6 @@
 -- `checks::check_list` meets its contract: no event passed is refused, and the rows and the counts are those of the events passed.
 -- Assumes nothing.
-use mathlib.Core.Path.{◌≡◌, refl}
+use mathlib.Core.Path.{◌≡◌}
 use native.Mathlib.Numerals.{add-one}
 use native.Mathlib.Omega.{arith}
 use lib.ListN.{length}
