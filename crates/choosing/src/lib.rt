@@ -19,8 +19,15 @@ use input::TICKS;
 use rules::Why;
 
 mod finding;
+#[cfg(test)]
+mod tests;
 
 pub use finding::Finding;
+
+// In a module of its own, so that `use choosing::*` brings one `open`, `file` and `find`, those of `Finding`.
+pub mod by_tags {
+    pub use crate::finding::FindingByTags;
+}
 
 // Where the next packet of row r starts: at its finish if its last packet has just finished, else not before its parent's
 // virtual time.

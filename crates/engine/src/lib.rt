@@ -17,6 +17,9 @@ use checks::ResultRoom;
 use choosing::Finding;
 use input::{EventRows, MOST_EVENTS, MOST_ROWS, Refusal, RowMarks};
 
+#[cfg(test)]
+mod tests;
+
 // An input that is not refused: its events in turn, and then the results. So many packets have gone on the line. Slices
 // stand one by one, as C lends them.
 fn serve<F: Finding>(
@@ -46,7 +49,7 @@ fn serve<F: Finding>(
     let mut rows = RowArrays::zeros();
     let mut counts = CountArrays::zeros();
     let mut lasts = [0; MOST_ROWS];
-    let mut finding = F::open(identifiers.len(), &tree.parents);
+    let mut finding = F::open(identifiers.len(), tree);
     queues::clear(working, classes.len());
     let mut sent = 0;
     for i in 0..classes.len() {

@@ -126,7 +126,7 @@ pub fn list<F: Finding>(
 {
     let on_air_rows = checks::filed(identifiers);
     let mut rows = RowArrays::zeros();
-    let mut finding = F::open(identifiers.len(), &reading.tree.parents);
+    let mut finding = F::open(identifiers.len(), &reading.tree);
     let mut counts = CountArrays::zeros();
     let mut lasts = [0u32; MOST_ROWS];
     let mut working = no_words();

@@ -13,7 +13,7 @@ use Rattle.engine.proofs.serve.Goals as goal
 
 pub loop-i-init : goal.loop-i-init
 loop-i-init g c =
-    (fresh_now _ _ _ _ _ _ _ (c.open-finding.ensures _ _ _ _) c.zeros-rows.ensures c.zeros-counts.ensures c.clear.ensures, fresh_order _ _ _, refl)
+    (fresh_now _ _ _ _ _ _ _ (c.open-finding.ensures _ _) c.zeros-rows.ensures c.zeros-counts.ensures c.clear.ensures, fresh_order _ _ _, refl)
 
 pub write_report-requires-clause-line_sends_nothing : goal.write_report-requires-clause-line_sends_nothing
 unfolding sends

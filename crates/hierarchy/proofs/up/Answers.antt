@@ -18,14 +18,14 @@ loop-level-init g c =
 
 pub returns-then-has_head : goal.returns-then-has_head
 returns-then-has_head g c =
-    rising_stops _ _ _ _ _ _ _ _ _ _ c.loop-level.invariant.1 (omega arith) _ (λ tree class_of. c.file.ensures tree class_of _ _)
+    rising_stops _ _ _ _ _ _ _ _ _ _ c.loop-level.invariant.1 (omega arith) _ c.file.ensures
     (sym c.has_head.ensures ∙ c.if-has_head.true)
 
 pub chooses-requires-clause-chooses : goal.chooses-requires-clause-chooses
 chooses-requires-clause-chooses g c =
     let known = c.requires.climbs in
     let may =
-    rising_chooses _ _ _ _ _ _ _ _ _ _ c.loop-level.invariant.1 (omega arith) _ (λ tree class_of. c.file.ensures tree class_of _ _)
+    rising_chooses _ _ _ _ _ _ _ _ _ _ c.loop-level.invariant.1 (omega arith) _ c.file.ensures
     (sym c.has_head.ensures ∙ c.if-has_head.false) known.0 known.1 known.2 known.3 known.4 in
     (known.0, known.1, known.2, known.3, may)
 
@@ -38,10 +38,10 @@ loop-level-preserved g c =
     let fewer : c.args.depth - (now._level + 1) ≡ d - 1 = omega arith in
     let none = sym c.has_head.ensures ∙ c.if-has_head.false in
     let may =
-    rising_chooses _ _ _ _ _ _ _ _ _ _ now.invariant.1 some _ (λ tree class_of. c.file.ensures tree class_of _ _) none known.0 known.1 known.2
+    rising_chooses _ _ _ _ _ _ _ _ _ _ now.invariant.1 some _ c.file.ensures none known.0 known.1 known.2
     known.3 known.4 in (
       rw fewer (chosen_leeway d _ _ _ _ _ some (c.chooses.ensures known.0 known.1 known.2 known.3 may).rows_are now.invariant.0),
-      rw fewer (rising_goes _ _ _ _ _ _ _ _ _ _ now.invariant.1 some _ (λ tree class_of. c.file.ensures tree class_of _ _) none _ _ c.chooses.ensures),
+      rw fewer (rising_goes _ _ _ _ _ _ _ _ _ _ now.invariant.1 some _ c.file.ensures none _ _ c.chooses.ensures),
     )
 
 pub returns : goal.returns

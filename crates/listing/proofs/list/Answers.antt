@@ -18,7 +18,7 @@ loop-i-init g c =
       refl,
       c.no_words-working.ensures.1,
       c.no_words-order.ensures.1,
-      outset _ tree arrivals c.args.rate _ _ _ _ _ _ refl c.no_words-working.ensures.0 (c.open-finding.ensures _ _ _ _) c.zeros-rows.ensures c.zeros-counts.ensures,
+      outset _ tree arrivals c.args.rate _ _ _ _ _ _ refl c.no_words-working.ensures.0 (c.open-finding.ensures _ _) c.zeros-rows.ensures c.zeros-counts.ensures,
     )
 
 pub returns-in_err-turn : goal.returns-in_err-turn

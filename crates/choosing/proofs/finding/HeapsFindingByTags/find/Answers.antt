@@ -3,7 +3,7 @@
 use mathlib.Core.Path.{◌∙◌}
 use Rattle.rules.specs.declared.Why.TheVariants.{Arrived}
 use Rattle.filing.proofs.Choosing.{chosen, chosen_time, chosen_child}
-use Rattle.choosing.proofs.finding.HeapsFinding.find.Goals as goal
+use Rattle.choosing.proofs.finding.HeapsFindingByTags.find.Goals as goal
 
 pub returns : goal.returns
 returns c tree class_of old =

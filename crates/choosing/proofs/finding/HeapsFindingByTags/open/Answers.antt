@@ -2,7 +2,7 @@
 -- Assumes nothing.
 use Rattle.filing.proofs.Outset.{none_waits}
 use Rattle.heaps.specs.Kept.{no_heaps}
-use Rattle.choosing.proofs.finding.HeapsFinding.open.Goals as goal
+use Rattle.choosing.proofs.finding.HeapsFindingByTags.open.Goals as goal
 
 pub returns : goal.returns
 unfolding no_heaps

@@ -8,7 +8,7 @@ use Rattle.filing.proofs.Heading.{one_aside, none_aside}
 use Rattle.rules.specs.Box.{Rows, has_head}
 use Rattle.arrays.specs.declared.RowArrays.{RowArrays}
 use Rattle.arrays.specs.Arrays.{rows_of}
-use Rattle.choosing.proofs.finding.HeapsFinding.file.Goals as goal
+use Rattle.choosing.proofs.finding.HeapsFindingByTags.file.Goals as goal
 
 abbrev with_lengths : RowArrays → List ℕ → List ℕ → Rows
 with_lengths rows lengths classes = rows_of rows.starts rows.finishes rows.virtuals rows.heads lengths classes
